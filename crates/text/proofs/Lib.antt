@@ -1,0 +1,4 @@
+pub mod Parting
+pub mod Lining
+pub mod Reading
+pub mod Writing
