@@ -1,0 +1,15 @@
+pub mod Pigeon
+pub mod Loops
+pub mod Sound
+pub mod Crossing
+pub mod Halting
+pub mod Endings
+pub mod Words
+pub mod Outs
+pub mod Bound
+pub mod Walk
+pub mod Sames
+pub mod Counting
+pub mod RowLaws
+pub mod Composed
+pub mod Paired
