@@ -1,0 +1,4 @@
+pub mod Laws
+pub mod Blank
+pub mod Counting
+pub mod Pairing

@@ -1,0 +1,4 @@
+pub mod Steps
+pub mod Distance
+pub mod Pair
+pub mod Kinds
