@@ -1,0 +1,3 @@
+pub mod Titles
+pub mod Fields
+pub mod Plain

@@ -1,0 +1,4 @@
+pub mod Places
+pub mod Adding
+pub mod Mapped
+pub mod Naming
