@@ -7,7 +7,12 @@ use Rattle.std.specs.Pieces.{rejoined}
 use Rattle.std.specs.Written.{decimal}
 use Rattle.text.specs.Parts.{tab, line-feed}
 use Rattle.refusals.specs.Numbers.{number-of, layer-of, layer-number}
+use Rattle.refusals.specs.declared.fault.Fault.{Fault}
 use Rattle.refusals.specs.declared.refusal.Refusal.{Refusal}
+
+-- a refusal that has no place in a text
+abbrev pub unplaced : Fault → Refusal
+unplaced f = record { fault = f; line = 0; field = 0 }
 
 abbrev pub told-fields : Refusal → List (List ℕ)
 told-fields r =

@@ -3,7 +3,7 @@ ghost use mathlib.Core.Path.{_≡_};
 ghost use Rattle.std.specs.Of.String.{string-bytes};
 ghost use Rattle.std.specs.Vec.{made};
 ghost use Rattle.std.specs.declared.option.Option.the-variants.{Some};
-ghost use Rattle.refusals.specs.Line.{told-as, refusal-line, Told-alone};
+ghost use Rattle.refusals.specs.Line.{unplaced, told-as, refusal-line, Told-alone};
 use crate::fault::Fault;
 use crate::fault::FaultDebug;
 use crate::fault::FaultPartialEq;
@@ -20,6 +20,17 @@ pub struct Refusal {
 }
 
 impl Refusal {
+    // A refusal that has no place in a text.
+    pub fn unplaced(fault: Fault) -> Refusal
+        ensures { λ r. ⌜ r ≡ unplaced fault ⌝ }
+    {
+        Refusal {
+            fault,
+            line: 0,
+            field: 0,
+        }
+    }
+
     // The whole line, with its line feed.
     pub fn line(self, heap: Global) -> Result<String, AllocError>
         ensures text { λ r. ⌜ made r (λ t. string-bytes t ≡ refusal-line self) ⌝ }

@@ -5,7 +5,7 @@ use crate::keys::Blank;
 use crate::keys::Key;
 use crate::keys::same_bytes;
 
-// A rule that never comes out of the word.
+// A rule that never comes out of the word; it stands at states that the rule has not, too.
 pub const NEVER: u8 = 255;
 
 // Where a rule comes out of a word: the state that it is in then, for each state in which it enters from the right, and at 32

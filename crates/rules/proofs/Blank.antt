@@ -7,7 +7,6 @@ use native.Mathlib.Omega.{arith}
 use lib.ListN.{replicate, set}
 use Rattle.std.specs.declared.option.Option.{Option}
 use Rattle.std.proofs.shelf.Ways.{tells}
-use Rattle.two_way.specs.Automaton.{Automaton}
 use Rattle.two_way.specs.Pairs.{blank}
 use Rattle.rules.specs.Steps.{stored, at, onward, allowed, Kept}
 

@@ -1,13 +1,11 @@
 -- An automaton from steps is lawful exactly when its numbers are in range and its steps are allowed.
-use mathlib.Core.Path.{_≡_, refl}
-use mathlib.Core.Bool.{true, cond, _&&_}
-use Prim.Native.Nat.{ℕ, _+_, _≤_, _<_}
+use mathlib.Core.Path.{_≡_}
+use Prim.Native.Nat.{ℕ, _+_}
 use native.Mathlib.Omega.{arith}
-use borrow.Author.Needs.{needs}
-use Rattle.std.specs.declared.option.Option.the-variants.{Some, None}
+use Rattle.std.specs.declared.option.Option.the-variants.{Some}
 use Rattle.std.proofs.shelf.Ways.{tells}
-use Rattle.two_way.specs.Automaton.{Automaton, Lawful}
-use Rattle.rules.specs.Steps.{automaton, onward, Sizes, allowed, Kept}
+use Rattle.two_way.specs.Automaton.{Lawful}
+use Rattle.rules.specs.Steps.{automaton, Sizes, Kept}
 
 module _ (k m s t r : ℕ) (step : ℕ → ℕ → ℕ × ℕ) where
   pub kept-lawful : Sizes k m s t r → Kept k m t r step → Lawful (automaton k m s t r step)

@@ -18,6 +18,7 @@ pub use pair::PairAnswers;
 pub use pair::PairRule;
 pub use pair::PairRuleDebug;
 pub use rule::Rule;
+pub use rule::step;
 pub use stored::StoredRule;
 pub use stored::StoredRuleDebug;
 pub use stored::answers::StoredAnswers;

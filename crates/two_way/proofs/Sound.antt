@@ -36,6 +36,14 @@ pub way-is : (A : Automaton) (q c p d : ℕ) → A .next q c ≡ Some (p, d) →
 unfolding way
 way-is A q c p d e = rw (e, way)
 
+pub to-none : (A : Automaton) (q c : ℕ) → A .next q c ≡ None → to A q c ≡ q
+unfolding to
+to-none A q c e = rw (e, to)
+
+pub way-none : (A : Automaton) (q c : ℕ) → A .next q c ≡ None → way A q c ≡ L
+unfolding way
+way-none A q c e = rw (e, way)
+
 module _ (A : Automaton) (l : Lawful A) where
   given : (q c : ℕ) → q < A .states → c < A .letters + 2 → (p : ℕ) × (d : ℕ) × (A .next q c ≡ Some (p, d))
   given q c h h′ = go (A .next q c) refl

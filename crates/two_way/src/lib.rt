@@ -1,7 +1,9 @@
 // Two-way automata, their runs and their crossing tables: the definitions and the theorems that a library of verdicts rests on.
 // All functions but `number` do nothing. The contract of each is a theorem of specs/Theorems.antt, so the crate checks only with its proof.
 ghost use mathlib.Core.Path.{_≡_};
-ghost use Rattle.two_way.specs.Verdicts.{number-of};
+ghost use Rattle.std.specs.declared.option.Option.the-variants.{Some};
+ghost use Rattle.two_way.specs.Verdicts.{number-of, named};
+ghost use Rattle.two_way.specs.declared.Verdict.{Verdict};
 ghost use Rattle.two_way.specs.Theorems.{Crossings-tell, Verdicts-agree, Right-congruence, Walks-end, Rows-count, Pairs-decide, Rows-tell};
 
 // What an automaton says of a word.
@@ -21,6 +23,19 @@ impl Verdict {
             Verdict::Accepts => 1,
             Verdict::Rejects => 2,
             Verdict::Loops => 3,
+        }
+    }
+
+    // The verdict with this number, none for any other number.
+    pub fn from_number(number: u8) -> Option<Verdict>
+        ensures named { λ r. ⌜ r ≡ named number ⌝ }
+        ensures law { λ r. ⌜ ((v : Verdict) → (r ≡ Some v → number-of v ≡ number) × (number-of v ≡ number → r ≡ Some v)) ⌝ }
+    {
+        match number {
+            1 => Some(Verdict::Accepts),
+            2 => Some(Verdict::Rejects),
+            3 => Some(Verdict::Loops),
+            _ => None,
         }
     }
 }

@@ -1,11 +1,10 @@
 // How a stored rule is made, and what it answers.
 ghost use mathlib.Core.Path.{_≡_};
-ghost use Rattle.std.specs.Options.{Cases};
 ghost use Rattle.std.specs.Orderings.{When};
 ghost use Rattle.two_way.specs.Automaton.{Lawful};
 ghost use Rattle.two_way.specs.Pairs.{blank};
 ghost use Rattle.rules.specs.Steps.{at, stored, Sizes, Kept};
-ghost use Rattle.rules.specs.Kinds.{of-stored};
+ghost use Rattle.rules.specs.Kinds.{of-stored, Loaded};
 use super::StoredRule;
 use crate::bounds::Bounds;
 use crate::rule::Rule;
@@ -74,7 +73,7 @@ impl StoredRule {
         reject: u8,
         steps: &[(u8, u8); 576],
     ) -> Option<StoredRule>
-        ensures { λ r. ⌜ Cases r (Lawful (stored states letters start accept reject (now (steps .entry))) → ⊥) (λ x. Lawful (stored states letters start accept reject (now (steps .entry))) × (of-stored x ≡ stored states letters start accept reject (now (steps .entry)))) ⌝ }
+        ensures { λ r. ⌜ Loaded (stored states letters start accept reject (now (steps .entry))) r ⌝ }
     {
         if keeps_laws(states, letters, start, accept, reject, steps) {
             Some(StoredRule {

@@ -1,6 +1,5 @@
-use mathlib.Core.Path.{_≡_}
 use mathlib.Core.Bool.{Bool, true, false}
-use Prim.Native.Nat.{_*_, _^_, _%_, _<_}
+use Prim.Native.Nat.{_*_, _^_, _%_}
 use native.Mathlib.Omega.{arith}
 use lib.Dec.{ltb}
 use Rattle.std.specs.Orderings.{When}
