@@ -1,0 +1,4 @@
+pub mod Steps
+pub mod Counts
+pub mod Follows
+pub mod Lawfully
