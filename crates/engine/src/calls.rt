@@ -116,6 +116,21 @@ impl<R: Rule, L: Alphabet> Engine<R, L> {
         ensures dfa { λ _. ⌜ now (dfa .exit) ≡ performed (record { rule = R·Rule .meaning; count = L·Alphabet .letters; letter = L·Alphabet .letter }) (now (self .entry)) call (now (tables .entry)) (now (dfa .entry)) (now (marks .entry)) .dfa ⌝ }
         ensures law { λ a. ⌜ Law (record { rule = R·Rule .meaning; count = L·Alphabet .letters; letter = L·Alphabet .letter }) (now (self .entry)) call (now (tables .entry)) (now (dfa .entry)) (now (marks .entry)) a (now (dfa .exit)) (now (self .exit)) ⌝ }
     {
+        self.dispatch(call, tables, dfa, marks)
+    }
+
+    // The call itself.
+    fn dispatch(
+        &mut self,
+        call: Call<R>,
+        tables: &mut [CrossingTable],
+        dfa: &mut [DfaRow],
+        marks: &[L::Mark],
+    ) -> Answer
+    where
+        R: Drop,
+        ensures { λ a. ⌜ record { engine = now (self .exit); answer = a; tables = now (tables .exit); dfa = now (dfa .exit) } ≡ performed (record { rule = R·Rule .meaning; count = L·Alphabet .letters; letter = L·Alphabet .letter }) (now (self .entry)) call (now (tables .entry)) (now (dfa .entry)) (now (marks .entry)) ⌝ }
+    {
         match call {
             Call::Change(rule) => {
                 self.change(rule);
