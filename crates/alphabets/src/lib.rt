@@ -1,4 +1,7 @@
 // Alphabets: each gives every mark of its kind one of its letters.
+
+#![tactic(auto)]
+
 ghost use Rattle.std.specs.Prelude.{◌≡◌, ℕ, ◌<◌, ◌≤◌, count_by, nat_eq};
 
 mod catalogue;

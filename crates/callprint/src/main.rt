@@ -1,4 +1,7 @@
 // Performs a list of calls on an engine, refused ones too, and prints what each answers.
+
+#![tactic(auto)]
+
 use alphabets::PlainLetters;
 use dfa::DfaRow;
 use engine::{Answer, Call, Engine};

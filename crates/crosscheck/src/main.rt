@@ -1,4 +1,7 @@
 // Sets the library's answers against a simulation that shares no code with it.
+
+#![tactic(auto)]
+
 mod comparing;
 mod drawing;
 mod random;

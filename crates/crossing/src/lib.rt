@@ -1,4 +1,7 @@
 // Crossing tables, computed: in which state a rule that stands on the last letter of a word comes out of it.
+
+#![tactic(auto)]
+
 ghost use Rattle.std.specs.Prelude.{◌≡◌};
 ghost use Rattle.two_way.specs.Automaton.{to};
 ghost use Rattle.two_way.specs.Tables.{cross, extended, verdict};

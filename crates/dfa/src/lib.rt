@@ -1,4 +1,7 @@
 // The one-way table of a rule: a row for each different crossing table.
+
+#![tactic(auto)]
+
 mod asking;
 mod filling;
 mod rows;

@@ -1,4 +1,7 @@
 // The engine: one rule, one alphabet and the rows in use.
+
+#![tactic(auto)]
+
 mod calls;
 mod walking;
 

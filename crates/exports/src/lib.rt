@@ -1,4 +1,7 @@
 // The calls for programs in other languages: numbers, bytes and rows, and a code in place of a result.
+
+#![tactic(auto)]
+
 ghost use Rattle.std.specs.Prelude.{◌≡◌, map};
 ghost use Rattle.alphabets.specs.Plain.{letter_count, plain_letter};
 ghost use Rattle.dfa.specs.Asked.{asked};

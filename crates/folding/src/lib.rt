@@ -1,4 +1,7 @@
 // From a sheet to the listing of its one-way table, in one call.
+
+#![tactic(auto)]
+
 ghost use Rattle.std.specs.Prelude.{◌≡◌, take, IfOk};
 ghost use Rattle.spelling.specs.Reading.{sheet_read};
 ghost use Rattle.folding.specs.Folded.{folded, ListsRule};

@@ -1,4 +1,7 @@
 // Reads a sheet from standard input, and prints the listing of its one-way table, or the line that tells why it is refused.
+
+#![tactic(auto)]
+
 use dfa::DfaRow;
 use folding::fold_sheet;
 use loading::LONGEST;

@@ -1,4 +1,7 @@
 // The text of a one-way table.
+
+#![tactic(auto)]
+
 ghost use Rattle.std.specs.Prelude.{◌≡◌, ◌≤◌, length, OnOk};
 ghost use Rattle.text.specs.Output.{room, put};
 ghost use Rattle.listings.specs.Listing.{listing, ListedAlone};

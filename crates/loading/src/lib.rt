@@ -1,4 +1,7 @@
 // Sheets: rules as text.
+
+#![tactic(auto)]
+
 ghost use Rattle.std.specs.Prelude.{◌≡◌};
 ghost use Rattle.spelling.specs.Reading.{sheet_read};
 ghost use Rattle.spelling.specs.Judged.{FirstMet, Spelled};

@@ -1,4 +1,7 @@
 // Why a call is refused, and where: the numbered conditions of every layer.
+
+#![tactic(auto)]
+
 mod fault;
 mod refusal;
 

@@ -1,4 +1,7 @@
 // A register keeps different keys of one kind in their order of arrival, over a slice that is lent to it.
+
+#![tactic(auto)]
+
 ghost use Rattle.std.specs.Prelude.{◌≤◌, length, take};
 ghost use Rattle.register.specs.Keys.{Differ};
 

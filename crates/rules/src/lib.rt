@@ -1,5 +1,8 @@
 // Rules that read words both ways, and three kinds of them: stored step by step, by a distance from the end, and one after another.
 // The tests give a rule kind of their own, whose meaning these names tell.
+
+#![tactic(auto)]
+
 ghost use Rattle.std.specs.Prelude.{◌+◌, ◌-◌, if◌then◌else◌, nat_eq, nat_lt};
 ghost use Rattle.rules.specs.Steps.{automaton, onward};
 ghost use Rattle.std.proofs.Common.{rules};

@@ -1,4 +1,7 @@
 // Worked cases, by the definitions that the contracts of the calls use.
+
+#![tactic(auto)]
+
 ghost use Rattle.std.specs.Prelude.{◌≡◌, map};
 ghost use Rattle.samples.specs.Cases.{cases, given};
 

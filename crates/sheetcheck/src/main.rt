@@ -1,4 +1,7 @@
 // Folds the sheets that its arguments name, without their ending, and compares each with the listing beside it.
+
+#![tactic(auto)]
+
 use dfa::DfaRow;
 use folding::fold_sheet;
 use register::CrossingTable;

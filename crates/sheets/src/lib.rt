@@ -1,4 +1,7 @@
 // Sheets: rules as text. So far only the form of a sheet's lines is checked.
+
+#![tactic(auto)]
+
 ghost use Rattle.std.specs.Prelude.{◌≡◌};
 ghost use Rattle.text.specs.Left.{line_of};
 ghost use Rattle.sheets.specs.Form.{formed, form_of, misformed_at};

@@ -1,4 +1,7 @@
 // Reads a sheet from standard input, and prints why its form is refused; nothing where it is good.
+
+#![tactic(auto)]
+
 use sheets::{LONGEST, check_form};
 use std::io::Read;
 

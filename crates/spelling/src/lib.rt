@@ -1,4 +1,7 @@
 // What a sheet spells, and why one is refused. Each function is there to carry a theorem, for every text.
+
+#![tactic(auto)]
+
 ghost use Rattle.std.specs.Prelude.{ℕ, List};
 ghost use Rattle.two_way.specs.Automaton.{Automaton, Lawful};
 ghost use Rattle.spelling.specs.Reading.{sheet_read};

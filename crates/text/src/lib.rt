@@ -1,4 +1,7 @@
 // Text as sheets and listings have it: lines, fields parted by tabs, decimal numbers.
+
+#![tactic(auto)]
+
 mod lines;
 mod numbers;
 mod output;

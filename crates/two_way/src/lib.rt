@@ -1,5 +1,8 @@
 // Two-way automata, their runs and their crossing tables: the definitions and the theorems that a library of verdicts rests on.
 // All functions but `number` do nothing. The contract of each is a theorem of specs/Theorems.antt, so the crate checks only with its proof.
+
+#![tactic(auto)]
+
 ghost use Rattle.std.specs.Prelude.{◌≡◌, Some};
 ghost use Rattle.two_way.specs.Verdicts.{number_of, named};
 ghost use Rattle.two_way.specs.declared.Verdict.{Verdict};
