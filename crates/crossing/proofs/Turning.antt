@@ -39,7 +39,7 @@ some_byte : (r : List ℕ) (q b : ℕ) → b ≡ get_or r q 255 → (b ≡ 255 �
 some_byte r q b e n = let y = ne_eqb (get_or r q 255) 255 (λ z. n (e ∙ z)) in cc
 
 -- a turn on a letter: p and d are the step, b the byte of the row at p
-module _ (A : Automaton) (r : List ℕ) (a s p d : ℕ) (GoesTo : p ≡ to A s a) (goes_way : way A s a ≡ cond (eqb d 1) R L) where
+module _ (A : Automaton) (r : List ℕ) (a s p d : ℕ) (goes_to : p ≡ to A s a) (goes_way : way A s a ≡ cond (eqb d 1) R L) where
   abbrev turns : ℕ → Turn ℕ (Option ℕ)
   turns = crossing A (of_row r).at a
 
@@ -53,14 +53,14 @@ module _ (A : Automaton) (r : List ℕ) (a s p d : ℕ) (GoesTo : p ≡ to A s a
   stays b e ne z n =
       let w = leftward ne in
       let o = never_byte r p b e z in
-      let q : (of_row r).at (to A s a) ≡ None = ap (λ x. (of_row r).at x) (sym GoesTo) ∙ o in
+      let q : (of_row r).at (to A s a) ≡ None = ap (λ x. (of_row r).at x) (sym goes_to) ∙ o in
       let t : turns s ≡ stop None = cc in cc
 
   pub comes_back : (b : ℕ) → b ≡ get_or r p 255 → (d ≡ 1 → ⊥) → (b ≡ 255 → ⊥) → (n : ℕ) → run turns (suc n) s ≡ run turns n b
   comes_back b e ne z n =
       let w = leftward ne in
       let o = some_byte r p b e z in
-      let q : (of_row r).at (to A s a) ≡ Some b = ap (λ x. (of_row r).at x) (sym GoesTo) ∙ o in
+      let q : (of_row r).at (to A s a) ≡ Some b = ap (λ x. (of_row r).at x) (sym goes_to) ∙ o in
       let t : turns s ≡ on b = cc in cc
 
 -- the answer of all turns on a letter
@@ -82,12 +82,12 @@ module _ (A : Automaton) (r : List ℕ) (s : ℕ) where
       let t : lasts s ≡ stop Verdict.Rejects = cc in cc
 
   -- neither accept nor reject: the step at the right end leads to p, and b is the byte of the row there
-  module _ (p b : ℕ) (GoesTo : p ≡ to A s (right_end A)) (is : b ≡ get_or r p 255) (na : s ≡ A.accept → ⊥) (nr : s ≡ A.reject → ⊥) where
+  module _ (p b : ℕ) (goes_to : p ≡ to A s (right_end A)) (is : b ≡ get_or r p 255) (na : s ≡ A.accept → ⊥) (nr : s ≡ A.reject → ⊥) where
     into : lasts s ≡ arriving (stop Verdict.Loops) ((of_row r).at p) on
     into =
         let y = ne_eqb s A.accept na in
         let z = ne_eqb s A.reject nr in
-        let q = ap (λ x. (of_row r).at x) GoesTo in cc
+        let q = ap (λ x. (of_row r).at x) goes_to in cc
 
     pub lost : b ≡ 255 → (n : ℕ) → run lasts (suc n) s ≡ Some Verdict.Loops
     lost z n = let i = into in let o = never_byte r p b is z in let t : lasts s ≡ stop Verdict.Loops = cc in cc

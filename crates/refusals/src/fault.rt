@@ -1,5 +1,6 @@
 // The conditions by which a call is refused.
-ghost use Rattle.std.specs.Prelude.{◌≡◌, Decides};
+ghost use Rattle.std.specs.Prelude.{◌≡◌, ◌↔◌, nat_eq, IsTrue};
+ghost use Rattle.std.specs.Ordering.{on};
 ghost use Rattle.refusals.specs.Numbers.{number_of, layer_of, layer_number};
 ghost use Rattle.refusals.specs.declared.fault.Fault.{Fault};
 ghost use Rattle.std.specs.Cmp.Rules.{comparing};
@@ -86,12 +87,16 @@ impl Fault {
     }
 }
 
+// Two faults are the same exactly where their numbers are.
 impl PartialEq for Fault {
-    ghost equals = { λ x y t. Decides t (x ≡ y) };
+    ghost eq = { on number_of nat_eq };
 
     ghost laws = { Prim.search (comparing, rules) };
 
-    fn eq(&self, other: &Fault) -> bool {
+    fn eq(&self, other: &Fault) -> bool
+        ensures value { result ≡ on number_of nat_eq self.now other.now }
+        ensures same { IsTrue result ↔ (self.now ≡ other.now) }
+    {
         self.number() == other.number()
     }
 }

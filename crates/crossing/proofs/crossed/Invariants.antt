@@ -8,4 +8,4 @@ use Rattle.crossing.proofs.crossed.Given as goal
 abbrev pub invariant-loop-turn : goal.invariant-loop-turn
 invariant-loop-turn g l =
     run (crossing (g.R.Rule.meaning l.rule) (of_row l.before.answers).at l.letter) l.turns l.from
-    ≡ run (crossing (g.R.Rule.meaning l.rule) (of_row l.before.answers).at l.letter) (l.turns - l.-turn) l.state
+    ≡ run (crossing (g.R.Rule.meaning l.rule) (of_row l.before.answers).at l.letter) (l.turns - l._turn) l.state

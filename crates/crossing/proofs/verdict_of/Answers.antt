@@ -14,7 +14,7 @@ returns-then-state-accept g c =
     let A = g.R.Rule.meaning c.args.rule.now in
     let r = c.args.table.now.answers in
     judged A r c.answer-state.result c.answer-state.ensures c.if-state.false (Some Verdict.Accepts)
-    (at_turn (ending A (of_row r).at) c.states-turn-end.result A.states c.loop-turn.-turn c.loop-turn.state c.answer-state.result c.states-turn-end.ensures c.loop-turn.invariant c.loop-turn-test.true _
+    (at_turn (ending A (of_row r).at) c.states-turn-end.result A.states c.loop-turn._turn c.loop-turn.state c.answer-state.result c.states-turn-end.ensures c.loop-turn.invariant c.loop-turn-test.true _
     (accepted A r c.loop-turn.state (c.if-state-accept.true ∙ c.accept.ensures)))
 
 pub returns-then-state-reject : goal.returns-then-state-reject
@@ -22,26 +22,26 @@ returns-then-state-reject g c =
     let A = g.R.Rule.meaning c.args.rule.now in
     let r = c.args.table.now.answers in
     judged A r c.answer-state.result c.answer-state.ensures c.if-state.false (Some Verdict.Rejects)
-    (at_turn (ending A (of_row r).at) c.states-turn-end.result A.states c.loop-turn.-turn c.loop-turn.state c.answer-state.result c.states-turn-end.ensures c.loop-turn.invariant c.loop-turn-test.true _
+    (at_turn (ending A (of_row r).at) c.states-turn-end.result A.states c.loop-turn._turn c.loop-turn.state c.answer-state.result c.states-turn-end.ensures c.loop-turn.invariant c.loop-turn-test.true _
     (rejected A r c.loop-turn.state (λ e. c.if-state-accept.false (e ∙ sym c.accept.ensures)) (c.if-state-reject.true ∙ c.reject.ensures)))
 
 pub returns-then-state-2 : goal.returns-then-state-2
 returns-then-state-2 g c =
     let A = g.R.Rule.meaning c.args.rule.now in
     let r = c.args.table.now.answers in
-    let GoesTo = c.step-to.ensures.to ∙ ap (λ m. to A c.loop-turn.state (m + 1)) c.letters-right.ensures in
+    let goes_to = c.step-to.ensures.to ∙ ap (λ m. to A c.loop-turn.state (m + 1)) c.letters-right.ensures in
     judged A r c.answer-state.result c.answer-state.ensures c.if-state.false (Some Verdict.Loops)
-    (at_turn (ending A (of_row r).at) c.states-turn-end.result A.states c.loop-turn.-turn c.loop-turn.state c.answer-state.result c.states-turn-end.ensures c.loop-turn.invariant c.loop-turn-test.true _
-    (lost A r c.loop-turn.state c.step-to.result.0 c.answer-state-in-loop-turn.result GoesTo c.answer-state-in-loop-turn.ensures
+    (at_turn (ending A (of_row r).at) c.states-turn-end.result A.states c.loop-turn._turn c.loop-turn.state c.answer-state.result c.states-turn-end.ensures c.loop-turn.invariant c.loop-turn-test.true _
+    (lost A r c.loop-turn.state c.step-to.result.0 c.answer-state-in-loop-turn.result goes_to c.answer-state-in-loop-turn.ensures
     (λ e. c.if-state-accept.false (e ∙ sym c.accept.ensures)) (λ e. c.if-state-reject.false (e ∙ sym c.reject.ensures)) c.if-state-2.true))
 
 pub loop-turn-preserved : goal.loop-turn-preserved
 loop-turn-preserved g c =
     let A = g.R.Rule.meaning c.args.rule.now in
     let r = c.args.table.now.answers in
-    let GoesTo = c.step-to.ensures.to ∙ ap (λ m. to A c.loop-turn.state (m + 1)) c.letters-right.ensures in
-    next_turn (ending A (of_row r).at) c.states-turn-end.result A.states c.loop-turn.-turn c.loop-turn.state c.answer-state.result c.states-turn-end.ensures c.loop-turn.invariant c.loop-turn-test.true _
-    (again A r c.loop-turn.state c.step-to.result.0 c.answer-state-in-loop-turn.result GoesTo c.answer-state-in-loop-turn.ensures
+    let goes_to = c.step-to.ensures.to ∙ ap (λ m. to A c.loop-turn.state (m + 1)) c.letters-right.ensures in
+    next_turn (ending A (of_row r).at) c.states-turn-end.result A.states c.loop-turn._turn c.loop-turn.state c.answer-state.result c.states-turn-end.ensures c.loop-turn.invariant c.loop-turn-test.true _
+    (again A r c.loop-turn.state c.step-to.result.0 c.answer-state-in-loop-turn.result goes_to c.answer-state-in-loop-turn.ensures
     (λ e. c.if-state-accept.false (e ∙ sym c.accept.ensures)) (λ e. c.if-state-reject.false (e ∙ sym c.reject.ensures)) c.if-state-2.false)
 
 pub returns : goal.returns
@@ -49,4 +49,4 @@ returns g c =
     let A = g.R.Rule.meaning c.args.rule.now in
     let r = c.args.table.now.answers in
     judged A r c.answer-state.result c.answer-state.ensures c.if-state.false None
-    (no_turn (ending A (of_row r).at) c.states-turn-end.result A.states c.loop-turn.-turn c.loop-turn.state c.answer-state.result c.states-turn-end.ensures c.loop-turn.invariant c.loop-turn-test.false)
+    (no_turn (ending A (of_row r).at) c.states-turn-end.result A.states c.loop-turn._turn c.loop-turn.state c.answer-state.result c.states-turn-end.ensures c.loop-turn.invariant c.loop-turn-test.false)

@@ -7,5 +7,5 @@ use Rattle.crossing.proofs.verdict_of.Given as goal
 -- what is left of the turns gives the answer that all of them give
 abbrev pub invariant-loop-turn : goal.invariant-loop-turn
 invariant-loop-turn g l =
-    run (ending (g.R.Rule.meaning l.rule) (of_row l.table.answers).at) l.-turn-end l.initial.state
-    ≡ run (ending (g.R.Rule.meaning l.rule) (of_row l.table.answers).at) (l.-turn-end - l.-turn) l.state
+    run (ending (g.R.Rule.meaning l.rule) (of_row l.table.answers).at) l._turn-end l.initial.state
+    ≡ run (ending (g.R.Rule.meaning l.rule) (of_row l.table.answers).at) (l._turn-end - l._turn) l.state
