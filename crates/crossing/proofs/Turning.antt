@@ -6,8 +6,8 @@ use Rattle.std.proofs.lemmas.List.FromFn.{get_or-map-range_with_len}
 use Rattle.two_way.specs.declared.Verdict.{Verdict}
 use Rattle.two_way.specs.Automaton.{Automaton, right_end, L, R, to, way}
 use Rattle.two_way.specs.Tables.{Table, Turn, on, stop, arriving, crossing, cross, ending, verdict}
-use Rattle.two_way.specs.Rows.{byte_of, of_byte, of_row, answer, row_of}
-use Rattle.two_way.proofs.Loops.{run, carried, or_else}
+use Rattle.two_way.specs.Rows.{byte_of, of_row, answer, row_of}
+use Rattle.two_way.proofs.Loops.{run, or_else}
 use Rattle.two_way.proofs.Crossing.{cross_run}
 use Rattle.two_way.proofs.Endings.{verdict_run}
 

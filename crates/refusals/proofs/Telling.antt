@@ -1,5 +1,5 @@
 -- A refusal's line tells its fault, its line and its field.
-use Rattle.std.proofs.Common.{◌≡◌, ℕ, ◌^◌, ◌<◌, List, [], ◌∷◌, codes, decimal, sym, refl, ap, ◌∙◌, arith, rules}
+use Rattle.std.proofs.Common.{◌≡◌, ℕ, ◌^◌, ◌<◌, [], ◌∷◌, codes, decimal, sym, refl, ap, ◌∙◌, arith, rules}
 use Rattle.std.specs.Str.Iter.{LacksByte}
 use Rattle.std.specs.Int.{IsInRange}
 use Rattle.std.specs.List.{AllByRecursion as All}
@@ -11,7 +11,7 @@ use Rattle.text.proofs.Reading.{lacks_decimal}
 use Rattle.refusals.specs.declared.fault.Fault.{Fault}
 use Rattle.refusals.specs.declared.refusal.Refusal.{Refusal}
 use Rattle.refusals.specs.Numbers.{number_of, layer_of, layer_number}
-use Rattle.refusals.specs.Line.{told_fields, told_as, refusal_line, InRange, ToldAlone}
+use Rattle.refusals.specs.Line.{told_fields, told_as, InRange, ToldAlone}
 
 same_fault : (f g : Fault) → number_of f ≡ number_of g → f ≡ g
 same_fault f g e = search rules

@@ -1,5 +1,5 @@
 -- Crossing tables as keys. Assumes nothing.
-use Rattle.std.specs.Prelude.{ℕ, Bool, cond, replicate, slice_index_or}
+use Rattle.std.specs.Prelude.{ℕ, Bool, replicate, slice_index_or}
 use Rattle.std.specs.Str.{bytes_eq}
 use Rattle.register.specs.declared.tables.CrossingTable.{CrossingTable}
 

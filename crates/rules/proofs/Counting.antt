@@ -6,7 +6,7 @@ use Rattle.std.proofs.lemmas.Bool.{both_ways}
 use Rattle.std.proofs.lemmas.Bool.Decides.{nat_tests}
 use Rattle.two_way.specs.declared.Verdict.{Verdict}
 use Rattle.two_way.specs.Automaton.{Automaton, Lawful}
-use Rattle.two_way.specs.Runs.{Word, column, Config, moved, step, begin, Enters, now, later, Accepts, Rejects}
+use Rattle.two_way.specs.Runs.{Word, column, Config, moved, step, Enters, now, later, Accepts, Rejects}
 use Rattle.two_way.proofs.Loops.{clash}
 use Rattle.two_way.proofs.Sound.{to_is, way_is, sound}
 use Rattle.two_way.proofs.Halting.{Tape}

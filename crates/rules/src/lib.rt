@@ -29,7 +29,7 @@ mod tests {
     struct EvenRule;
 
     impl Rule for EvenRule {
-        ghost meaning = { λ _. automaton 4 2 0 2 3 (λ q c. (if nat_lt 1 q then q, onward 2 c else (if nat_eq c 3 then q + 2, 0 else (if nat_eq c 2 then q, 1 else 1 - q, 1)))) };
+        ghost meaning = { λ _. automaton 4 2 0 2 3 (λ q c. (if nat_lt 1 q then (q, onward 2 c) else (if nat_eq c 3 then (q + 2, 0) else (if nat_eq c 2 then (q, 1) else (1 - q, 1))))) };
 
         ghost lawful = { Prim.search rules };
 

@@ -1,10 +1,10 @@
 -- A text is its lines one after another, and has these lines only.
-use Rattle.std.proofs.Common.{◌≡◌, ℕ, zero, suc, ◌<◌, ◌≤◌, Bool, true, false, cond, List, [], ◌∷◌, ◌++◌, length, sym, refl, ap, ◌∙◌, append_assoc, suc-le-suc, zero-le, not-suc-le-zero, zero-lt-suc, arith}
+use Rattle.std.proofs.Common.{◌≡◌, ℕ, ◌<◌, ◌≤◌, Bool, true, false, cond, List, [], ◌∷◌, ◌++◌, length, sym, refl, ap, ◌∙◌, append_assoc, suc-le-suc, zero-le, not-suc-le-zero, zero-lt-suc, arith}
 use Rattle.std.specs.Str.Iter.{LacksByte}
 use Rattle.std.specs.List.{join_with_byte, flat_map, AllByRecursion as All}
 use Rattle.std.proofs.lemmas.List.{append-nil, length-append, nil_from_length}
 use Rattle.text.specs.Parts.{parts, line_feed, Parted}
-use Rattle.text.specs.Lines.{Line, lines, as_lines, last_line, line_bytes, Ended, LinedAs, Lined}
+use Rattle.text.specs.Lines.{Line, lines, as_lines, line_bytes, Ended, LinedAs, Lined}
 use Rattle.text.proofs.Parting.{parted, parts_cons, parts_one}
 
 -- a part that others follow is an ended line

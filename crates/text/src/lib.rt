@@ -40,9 +40,9 @@ mod tests {
         let first = lines.next().ok_or("no first line")?;
         assert!(rt; first.ended);
         let mut parts = fields(first.text);
-        assert!(rt; parts.next().ok_or("no field")? == b"a");
-        assert!(rt; parts.next().ok_or("no field")? == b"");
-        assert!(rt; parts.next().ok_or("no field")? == b"b");
+        assert!(rt; parts.next().ok_or("no field")? == b"a".as_slice());
+        assert!(rt; parts.next().ok_or("no field")? == b"".as_slice());
+        assert!(rt; parts.next().ok_or("no field")? == b"b".as_slice());
         assert!(rt; parts.next().is_none());
         assert!(rt; lines.next().ok_or("no second line")?.text.is_empty());
         assert!(rt; !lines.next().ok_or("no last line")?.ended);

@@ -7,7 +7,6 @@ use Rattle.two_way.specs.Runs.{Config, step, Enters, now, later, Going}
 use Rattle.two_way.specs.Tables.{Turn, on, stop, sieve}
 use Rattle.two_way.proofs.Loops.{clash, Ends, ends, goes}
 use Rattle.two_way.proofs.Sound.{Halts, Sound}
-use Rattle.two_way.proofs.Crossing.{inner}
 
 -- h is accept or reject, and v its verdict
 abbrev pub Final : Automaton → ℕ → Verdict → Type 0

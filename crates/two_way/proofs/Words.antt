@@ -7,7 +7,7 @@ use Rattle.two_way.specs.Runs.{Word, column, begin, Enters, Accepts, Rejects, Re
 use Rattle.two_way.specs.Tables.{Table, empty_table, extended, table_from, table, verdict}
 use Rattle.two_way.proofs.Loops.{clash}
 use Rattle.two_way.proofs.Sound.{Sound}
-use Rattle.two_way.proofs.Crossing.{table_at, inner}
+use Rattle.two_way.proofs.Crossing.{table_at}
 use Rattle.two_way.proofs.Halting.{Final, Tape}
 use Rattle.two_way.proofs.Endings.{verdict_of, of_verdict}
 

@@ -1,4 +1,4 @@
-use Rattle.std.proofs.Common.{◌≡◌, Some, None, sym, ◌∙◌}
+use Rattle.std.proofs.Common.{Some, None, ◌∙◌}
 use Rattle.two_way.specs.Tables.{crossing}
 use Rattle.two_way.specs.Rows.{of_row}
 use Rattle.crossing.proofs.Turning.{at_turn, next_turn, no_turn, leaves, stays, comes_back, crossed_by}

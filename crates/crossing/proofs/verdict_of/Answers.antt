@@ -1,4 +1,4 @@
-use Rattle.std.proofs.Common.{◌≡◌, ◌+◌, Some, None, sym, ap, ◌∙◌}
+use Rattle.std.proofs.Common.{◌+◌, Some, None, sym, ap, ◌∙◌}
 use Rattle.two_way.specs.declared.Verdict.{Verdict}
 use Rattle.two_way.specs.Automaton.{to}
 use Rattle.two_way.specs.Tables.{ending}

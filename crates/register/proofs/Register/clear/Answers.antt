@@ -1,4 +1,4 @@
-use Rattle.std.proofs.Common.{◌≡◌, ◌<◌, length, take, sym, ◌∙◌, arith, ext_get_or}
+use Rattle.std.proofs.Common.{◌<◌, length, sym, ◌∙◌, arith, ext_get_or}
 use lib.ListN.{length-replicate, get_or-replicate}
 use Rattle.register.proofs.Register.clear.Goals as goal
 

@@ -1,5 +1,5 @@
 use Rattle.std.proofs.Common.{◌≡◌, ℕ, cond, eqb, Some, None, Option, unwrap_or, sym, ap, ◌∙◌}
-use Rattle.two_way.specs.Automaton.{Automaton, Way, to, way, L, R}
+use Rattle.two_way.specs.Automaton.{Automaton, to, way, L, R}
 use Rattle.two_way.proofs.Sound.{to_is, way_is, to_none, way_none}
 use Rattle.rules.proofs.rule.step.Goals as goal
 

@@ -1,4 +1,4 @@
-use Rattle.std.proofs.Common.{◌≡◌, ℕ, List, sym, ◌∙◌, arith}
+use Rattle.std.proofs.Common.{ℕ, List, sym, ◌∙◌, arith}
 use Rattle.std.proofs.lemmas.List.{at_drop_all}
 use Rattle.text.proofs.Reading.{read_on, lawful, not_plain, by_digits, digit_refused, digit_taken}
 use Rattle.text.proofs.numbers.read_number.Goals as goal

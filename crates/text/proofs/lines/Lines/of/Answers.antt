@@ -1,4 +1,4 @@
-use Rattle.std.proofs.Common.{◌≡◌, List, sym, ap, subst}
+use Rattle.std.proofs.Common.{List, sym, ap, subst}
 use Rattle.text.specs.Lines.{Line, as_lines, Lined}
 use Rattle.text.proofs.Lining.{lined}
 use Rattle.text.proofs.lines.Lines.of.Goals as goal
