@@ -1,5 +1,5 @@
 -- What adding the tables of a row does to the rows.
-use Rattle.std.proofs.Common.{◌≡◌, ℕ, suc, ◌+◌, ◌-◌, ◌<◌, ◌≤◌, Bool, true, false, cond, leb, List, [], ◌∷◌, ◌++◌, map, length, get_or, take, drop, set, replicate, Some, None, Option, unwrap_or, sym, refl, ap, ◌∙◌, subst, add-one, arith, length-set, get_or-set_other, get_or-set_same, ext_get_or, le-ltb, lt-ltb}
+use Rattle.std.proofs.Common.{◌≡◌, ℕ, suc, ◌+◌, ◌-◌, ◌<◌, ◌≤◌, Bool, true, false, cond, List, [], ◌∷◌, ◌++◌, map, length, get_or, take, drop, set, replicate, Some, None, Option, unwrap_or, sym, refl, ap, ◌∙◌, subst, add-one, arith, length-set, get_or-set_other, get_or-set_same, ext_get_or, le-ltb, lt-ltb}
 use native.Mathlib.Decide.{dec_lt, ℕ_discrete}
 use lib.ListN.{get_or-replicate}
 use Rattle.std.specs.List.{range_with_len}
@@ -12,7 +12,7 @@ use Rattle.register.specs.Tables.{alike_tables}
 use Rattle.register.specs.declared.tables.CrossingTable.{CrossingTable}
 use Rattle.crossing.specs.Computed.{extended_of}
 use Rattle.dfa.specs.Known.{place, lettered, cell}
-use Rattle.dfa.proofs.Placing.{front_place, new_front, new_there, place_below}
+use Rattle.dfa.proofs.Placing.{front_place, new_front, new_there}
 use Rattle.dfa.proofs.Growth.{lettered_there, lettered_later}
 
 -- an add that answers a place, and one that finds none

@@ -1,22 +1,21 @@
 -- What is left once every row is taken, or a row does not fit.
-use Rattle.std.proofs.Common.{◌≡◌, ℕ, zero, suc, ◌+◌, ◌-◌, ◌<◌, ◌≤◌, min, Bool, true, false, cond, ltb, List, [], ◌∷◌, ◌++◌, map, length, get_or, take, drop, set, replicate, Some, None, Option, sym, refl, ap, ◌∙◌, subst, add-one, arith, length-set, length-take-le, get_or-set_other, get_or-take, get_or-set_same, ext_get_or, le-ltb, lt-ltb}
+use Rattle.std.proofs.Common.{◌≡◌, ℕ, zero, suc, ◌+◌, ◌<◌, ◌≤◌, Bool, true, false, cond, ltb, List, [], ◌∷◌, ◌++◌, map, length, get_or, take, drop, set, replicate, Some, None, Option, sym, refl, ap, ◌∙◌, arith, length-take-le, get_or-set_other, get_or-take, get_or-set_same, ext_get_or, le-ltb, lt-ltb}
 use mathlib.Core.Path.{fun_ext}
 use native.Mathlib.Decide.{dec_lt, ℕ_discrete}
 use Rattle.std.specs.List.{range_with_len, slice_get}
-use Rattle.std.proofs.lemmas.List.{drop_all, take-append-drop, append-nil, append_assoc, length-map, get_or-map, drop-set-lt, drop-drop, length-append, length-drop, drop-append-le, take_all}
+use Rattle.std.proofs.lemmas.List.{drop_all, take-append-drop, append-nil, append_assoc, length-map, get_or-map, drop-set-lt, drop-drop, drop-append-le}
 use Rattle.two_way.specs.Automaton.{Automaton}
 use Rattle.two_way.specs.Tables.{verdict}
 use Rattle.two_way.specs.Rows.{of_row}
 use Rattle.two_way.specs.Verdicts.{number_of}
-use Rattle.register.specs.Keys.{with_key, laid_in}
-use Rattle.register.specs.Tables.{blank_table, alike_tables}
+use Rattle.register.specs.Keys.{laid_in}
+use Rattle.register.specs.Tables.{blank_table}
 use Rattle.register.specs.declared.tables.CrossingTable.{CrossingTable}
-use Rattle.crossing.specs.Computed.{empty_of, extended_of}
+use Rattle.crossing.specs.Computed.{extended_of}
 use Rattle.dfa.specs.declared.rows.DfaRow.{DfaRow}
 use Rattle.dfa.specs.Rows.{row_of, blank_row}
-use Rattle.dfa.specs.Known.{place, row, lettered, taken, known, cell, dfa_row, dfa_of}
+use Rattle.dfa.specs.Known.{place, row, lettered, known, cell, dfa_row, dfa_of}
 use Rattle.dfa.specs.Filled.{too_few, rows_of, tables_left, dfa_left}
-use Rattle.dfa.proofs.Placing.{Front}
 use Rattle.dfa.proofs.Growth.{taken_more, known_later, settled, row_then}
 
 -- what a register gives at a place

@@ -1,9 +1,9 @@
 -- A turn of an ask.
-use Rattle.std.proofs.Common.{◌≡◌, ℕ, zero, suc, ◌+◌, ◌<◌, ◌≤◌, Bool, true, false, cond, ◌&&◌, eqb, ltb, List, [], ◌∷◌, map, length, get_or, drop, is_some, Some, None, Err, Option, sym, refl, ap, ◌∙◌, subst, add-one, arith, le-ltb, lt-ltb, ne_eqb}
+use Rattle.std.proofs.Common.{◌≡◌, ℕ, zero, suc, ◌+◌, ◌<◌, ◌≤◌, Bool, true, false, cond, ltb, List, [], ◌∷◌, map, length, get_or, drop, is_some, Some, None, Err, Option, sym, refl, ap, ◌∙◌, add-one, arith, le-ltb, lt-ltb, ne_eqb}
 use native.Mathlib.Decide.{ℕ_discrete}
 use Rattle.std.specs.Option.{ok_or}
-use Rattle.std.proofs.lemmas.List.{drop_more, drop_all, get_or_default}
-use Rattle.std.proofs.lemmas.Bool.{and_parts, and_from, and_right, and_left, both_ways, ltb-true}
+use Rattle.std.proofs.lemmas.List.{drop_more, get_or_default}
+use Rattle.std.proofs.lemmas.Bool.{and_parts, and_from, ltb-true}
 use Rattle.two_way.specs.declared.Verdict.{Verdict}
 use Rattle.two_way.specs.Verdicts.{named}
 use Rattle.refusals.specs.declared.fault.Fault.TheVariants.{NoRows, DamagedTable}

@@ -1,6 +1,6 @@
 -- The rows of a rule grow at the end, and stand once every row is taken.
-use Rattle.std.proofs.Common.{◌≡◌, ℕ, zero, suc, ◌+◌, ◌<◌, ◌≤◌, Bool, true, false, cond, ltb, List, [], ◌∷◌, ◌++◌, length, get_or, sym, refl, ap, ◌∙◌, subst, arith, le-ltb, lt-ltb}
-use native.Mathlib.Decide.{dec_lt, dec_le, ℕ_discrete}
+use Rattle.std.proofs.Common.{◌≡◌, ℕ, zero, suc, ◌<◌, ◌≤◌, cond, List, length, sym, refl, ap, ◌∙◌, subst, arith, le-ltb, lt-ltb}
+use native.Mathlib.Decide.{dec_lt, dec_le}
 use Rattle.two_way.specs.Automaton.{Automaton}
 use Rattle.register.specs.declared.tables.CrossingTable.{CrossingTable}
 use Rattle.crossing.specs.Computed.{extended_of}

@@ -1,5 +1,5 @@
 -- Over the dfa of a rule an ask gives the verdict of the two-way run.
-use Rattle.std.proofs.Common.{◌≡◌, ℕ, zero, suc, ◌+◌, ◌<◌, ◌≤◌, Bool, true, cond, ◌&&◌, ltb, List, [], ◌∷◌, length, get_or, take, is_some, Some, None, Ok, Option, sym, refl, ap, ◌∙◌, subst, arith, lt-ltb}
+use Rattle.std.proofs.Common.{◌≡◌, ℕ, zero, suc, ◌<◌, ◌≤◌, true, cond, ltb, List, [], ◌∷◌, length, get_or, take, is_some, Some, None, Ok, sym, refl, ap, ◌∙◌, subst, arith, lt-ltb}
 use Rattle.std.specs.Option.{ok_or}
 use Rattle.std.proofs.lemmas.List.{get_or-take, get_or-map, length-map, length-take}
 use Rattle.std.proofs.lemmas.Bool.{and_from}

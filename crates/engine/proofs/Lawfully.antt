@@ -1,18 +1,16 @@
 -- The law, over every run.
-use Rattle.std.proofs.Common.{◌≡◌, ℕ, zero, suc, ◌+◌, ◌<◌, ◌≤◌, Bool, true, false, cond, eqb, ltb, List, [], ◌∷◌, ◌++◌, map, length, get_or, take, drop, replicate, Some, None, Ok, Err, Option, Result, sym, refl, ap, ◌∙◌, subst, arith, lt-ltb, eq-eqb, ne_eqb}
+use Rattle.std.proofs.Common.{◌≡◌, ℕ, ◌<◌, ◌≤◌, Bool, true, false, cond, eqb, ltb, List, [], ◌∷◌, ◌++◌, map, length, take, drop, replicate, Ok, Err, Option, sym, refl, ap, ◌∙◌, subst, arith, lt-ltb, eq-eqb, ne_eqb}
 use native.Mathlib.Decide.{dec_le}
 use Rattle.std.specs.Option.{ok_or}
 use Rattle.std.proofs.lemmas.Bool.{eqb-true, ltb-true}
 use Rattle.std.proofs.lemmas.List.{take_at, length-map}
-use Rattle.two_way.specs.declared.Verdict.{Verdict}
 use Rattle.two_way.specs.Automaton.{Automaton, Lawful}
-use Rattle.two_way.specs.Runs.{Word, Reads, Walks, most}
+use Rattle.two_way.specs.Runs.{Word}
 use Rattle.two_way.specs.Crossings.{Different}
 use Rattle.two_way.proofs.Sound.{sound}
 use Rattle.two_way.proofs.Walk.{walk_within, walk_reads}
 use Rattle.two_way.proofs.Counting.{apart_different}
 use Rattle.refusals.specs.declared.fault.Fault.TheVariants.{LettersDiffer, NoRows, TooFewPlaces, TitleTooLong, DamagedTable}
-use Rattle.refusals.specs.declared.refusal.Refusal.{Refusal}
 use Rattle.refusals.specs.Line.{unplaced}
 use Rattle.register.specs.declared.tables.CrossingTable.{CrossingTable}
 use Rattle.dfa.specs.declared.rows.DfaRow.{DfaRow}

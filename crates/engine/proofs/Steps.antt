@@ -1,9 +1,9 @@
 -- Columns, steps and turns of a walk.
-use Rattle.std.proofs.Common.{◌≡◌, ℕ, zero, suc, ◌+◌, ◌-◌, ◌<◌, ◌≤◌, cond, eqb, ltb, List, map, length, get_or, Ok, Err, Result, sym, refl, ap, ◌∙◌, subst, add-one, arith, le-ltb, lt-ltb, eq-eqb, ne_eqb}
-use native.Mathlib.Decide.{dec_le, ℕ_discrete}
+use Rattle.std.proofs.Common.{◌≡◌, ℕ, zero, suc, ◌+◌, ◌-◌, ◌<◌, ◌≤◌, cond, eqb, ltb, List, map, length, get_or, Ok, Err, sym, refl, ap, ◌∙◌, subst, add-one, arith, le-ltb, lt-ltb, eq-eqb, ne_eqb}
+use native.Mathlib.Decide.{dec_le}
 use Rattle.std.proofs.lemmas.List.{get_or-map, get_or_past, length-map}
 use Rattle.two_way.specs.declared.Verdict.{Verdict}
-use Rattle.two_way.specs.Automaton.{Automaton, Lawful, Way, L, R, left_end, right_end, to, way}
+use Rattle.two_way.specs.Automaton.{Automaton, Lawful, Way, L, R, right_end, to, way}
 use Rattle.two_way.specs.Runs.{Config, column, step, moved, begin, most}
 use Rattle.two_way.proofs.Loops.{clash}
 use Rattle.two_way.proofs.Sound.{Sound, sound, to_none}

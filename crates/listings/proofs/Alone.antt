@@ -1,7 +1,7 @@
 -- A listing tells the rows in use, the letters, the verdicts and the cells.
 use Rattle.std.proofs.Common.{◌≡◌, ℕ, zero, suc, ◌+◌, ◌^◌, ◌<◌, ◌≤◌, Bool, true, false, cond, not, eqb, ltb, List, [], ◌∷◌, ◌++◌, map, length, get_or, is_some, IfOk, Some, None, Err, codes, decimal, Option, Result, sym, refl, ap, ◌∙◌, subst, arith}
 use native.Mathlib.Decide.{ℕ_discrete}
-use Rattle.std.specs.List.{range_with_len, join_with_byte, flat_map, AllByRecursion as All}
+use Rattle.std.specs.List.{range_with_len, join_with_byte, flat_map, AllByRecursion}
 use Rattle.std.specs.Option.{ok_or}
 use Rattle.std.specs.Str.Iter.{LacksByte}
 use Rattle.std.specs.Int.{IsInRange}
@@ -29,8 +29,8 @@ use Rattle.listings.proofs.Soundly.{sound_at}
 -- fields that are read back from their line
 record Clear (fields : List (List ℕ)) : Type 0 where
   some : fields ≡ [] → ⊥
-  no_tab : All (LacksByte tab) fields
-  no_feed : All (LacksByte line_feed) fields
+  no_tab : AllByRecursion (LacksByte tab) fields
+  no_feed : AllByRecursion (LacksByte line_feed) fields
 
 abbrev first_text : List Line → List ℕ
 first_text [] = []
@@ -67,7 +67,7 @@ lines_same f g a (suc k) h e i low high = go (ℕ_discrete i a) (lines_same f g 
     go (yes z) later = ap f z ∙ first.0 ∙ ap g (sym z)
     go (no z) later = later (omega arith) (omega arith)
 
-all_counting : (P : List ℕ → Type 0) (f : ℕ → List ℕ) (a k : ℕ) → ((i : ℕ) → i < a + k → P (f i)) → All P (map f (range_with_len a k))
+all_counting : (P : List ℕ → Type 0) (f : ℕ → List ℕ) (a k : ℕ) → ((i : ℕ) → i < a + k → P (f i)) → AllByRecursion P (map f (range_with_len a k))
 all_counting P f a zero h = tt
 all_counting P f a (suc k) h = (h a (omega arith), all_counting P f (a + 1) k (λ i l. h i (omega arith)))
 
@@ -85,7 +85,7 @@ clear_head n m h k = record {
   no_feed = lacks line_feed (lacks_from_test line_feed (codes "shelf") refl) no_feed_digit;
 }
   where
-    lacks : (x : ℕ) → LacksByte x (codes "shelf") → (IsInRange 48 57 x → ⊥) → All (LacksByte x) (head_fields n m)
+    lacks : (x : ℕ) → LacksByte x (codes "shelf") → (IsInRange 48 57 x → ⊥) → AllByRecursion (LacksByte x) (head_fields n m)
     lacks x w d = (w, (lacks_decimal x n h d, (lacks_decimal x m k d, tt)))
 
 clear_row : (m i : ℕ) (d : DfaRow) → i < 2 ^ 64 → d.verdict < 2 ^ 64 → ((a : ℕ) → a < m → cell_of d a < 2 ^ 64) → Clear (row_fields m i d)
@@ -95,7 +95,7 @@ clear_row m i d h k l = record {
   no_feed = lacks line_feed (lacks_from_test line_feed (codes "row") refl) no_feed_digit;
 }
   where
-    lacks : (x : ℕ) → LacksByte x (codes "row") → (IsInRange 48 57 x → ⊥) → All (LacksByte x) (row_fields m i d)
+    lacks : (x : ℕ) → LacksByte x (codes "row") → (IsInRange 48 57 x → ⊥) → AllByRecursion (LacksByte x) (row_fields m i d)
     lacks x w o = (w, (lacks_decimal x i h o, (lacks_decimal x d.verdict k o, all_counting (LacksByte x) (λ a. decimal (cell_of d a)) 0 m (λ a b. lacks_decimal x (cell_of d a) (l a (omega arith)) o))))
 
 -- what the fields of a row tell

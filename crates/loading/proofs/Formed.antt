@@ -1,9 +1,6 @@
 -- The form of a line by its five fields.
-use Rattle.std.proofs.Common.{◌≡◌, ℕ, Bool, true, false, ◌&&◌, List, [], ◌∷◌, get_or, Decides, refl, ap, ◌∙◌}
-use Rattle.std.specs.Cmp.Lexicographic.{Matches}
+use Rattle.std.proofs.Common.{◌≡◌, ℕ, true, false, ◌&&◌, List, [], ◌∷◌, get_or, refl, ap, ◌∙◌}
 use Rattle.std.specs.Str.{bytes_eq}
-use Rattle.std.proofs.lemmas.Slice.Eq.{slice_eq-Decides, bytes_eq-Decides}
-use Rattle.std.proofs.lemmas.Bool.Decides.{same_from_decides, Decides-eqb}
 use Rattle.text.specs.Parts.{parts, tab}
 use Rattle.text.specs.Lines.{Line}
 use Rattle.spelling.specs.Said.{field}
@@ -17,9 +14,8 @@ formed_is word l a b c d e h = rw h refl
 pub unended : (word : List ℕ) (l : Line) (a b c d e : List ℕ) → parts tab l.text ≡ a ∷ b ∷ c ∷ d ∷ e ∷ [] → l.ended ≡ false → formed word l ≡ false
 unended word l a b c d e h z = formed_is word l a b c d e h ∙ rw z refl
 
-pub begins : (word : List ℕ) (l : Line) (a b c d e : List ℕ) (r : Bool) → parts tab l.text ≡ a ∷ b ∷ c ∷ d ∷ e ∷ [] → l.ended ≡ true → Matches (λ (p q : ℕ) (t : Bool). Decides t (p ≡ q)) a word r → formed word l ≡ r
-begins word l a b c d e r h z m =
-    formed_is word l a b c d e h ∙ rw z (same_from_decides (bytes_eq a word) r (bytes_eq-Decides a word) (slice_eq-Decides Decides-eqb a word r m))
+pub begins : (word : List ℕ) (l : Line) (a b c d e : List ℕ) → parts tab l.text ≡ a ∷ b ∷ c ∷ d ∷ e ∷ [] → l.ended ≡ true → formed word l ≡ bytes_eq a word
+begins word l a b c d e h z = formed_is word l a b c d e h ∙ rw z refl
 
 -- the fields of a line, by their numbers
 pub record Fielded (l : Line) (x : RowFields) : Type 0 where

@@ -2,7 +2,7 @@
 use Rattle.std.proofs.Common.{◌≡◌, ℕ, ◌^◌, ◌<◌, [], ◌∷◌, codes, decimal, sym, refl, ap, ◌∙◌, arith, rules}
 use Rattle.std.specs.Str.Iter.{LacksByte}
 use Rattle.std.specs.Int.{IsInRange}
-use Rattle.std.specs.List.{AllByRecursion as All}
+use Rattle.std.specs.List.{AllByRecursion}
 use Rattle.std.proofs.lemmas.List.{append_cancel_right}
 use Rattle.std.proofs.lemmas.Fmt.{decimal_injective}
 use Rattle.text.specs.Parts.{parts, tab, line_feed}
@@ -29,7 +29,7 @@ word : LacksByte tab (codes "refused")
 word = lacks_from_test tab (codes "refused") refl
 
 -- no field has a tab
-fields_clear : (r : Refusal) → InRange r → All (LacksByte tab) (told_fields r)
+fields_clear : (r : Refusal) → InRange r → AllByRecursion (LacksByte tab) (told_fields r)
 fields_clear r h = (
   word,
   (

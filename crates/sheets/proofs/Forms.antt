@@ -1,7 +1,7 @@
 -- A line's form by its fields, a sheet's by its lines, and both by the rows that are written.
-use Rattle.std.proofs.Common.{◌≡◌, ℕ, suc, ◌+◌, ◌≤◌, Bool, true, false, cond, eqb, ltb, ◌⊎◌, List, [], ◌∷◌, ◌++◌, length, get_or, Ok, Err, codes, Result, sym, refl, ap, ◌∙◌, subst, inl, inr, append_assoc, arith}
+use Rattle.std.proofs.Common.{◌≡◌, ℕ, suc, ◌+◌, ◌≤◌, Bool, true, false, cond, eqb, ltb, List, [], ◌∷◌, ◌++◌, length, get_or, Ok, Err, codes, Result, sym, refl, ap, ◌∙◌, subst, inl, inr, append_assoc, arith}
 use Rattle.std.specs.Str.Iter.{LacksByte}
-use Rattle.std.specs.List.{join_with_byte, flat_map, AllByRecursion as All}
+use Rattle.std.specs.List.{join_with_byte, flat_map, AllByRecursion}
 use Rattle.std.specs.Str.{bytes_eq}
 use Rattle.std.proofs.lemmas.Slice.Eq.{bytes_eq-Decides}
 use Rattle.std.proofs.lemmas.Bool.{and_parts, both_ways, cases_Bool, cond-false, false≢true, eqb-true, le-ltb, ltb-true, ltb-false}
@@ -45,7 +45,7 @@ module _ (word : List ℕ) (l : Line) where
         r.0,
         record {
           first = first;
-          no_tab = subst (All (LacksByte tab)) (sym r.1) parted_so.clear;
+          no_tab = subst (AllByRecursion (LacksByte tab)) (sym r.1) parted_so.clear;
           no_feed = lacks_parts line_feed tab (row_fields r.0) (subst (LacksByte line_feed) (sym whole) clear);
         },
         λ i. whole i ++ cond (sym p.0 i) (line_feed ∷ []) [],
@@ -88,7 +88,7 @@ RowsOf word ls = (rs : List Row) × Rows word rs × (flat_map row_text rs ≡ fl
 
 -- no line has a line feed inside
 abbrev Clear : List Line → Type 0
-Clear ls = All (λ l. LacksByte line_feed l.text) ls
+Clear ls = AllByRecursion (λ l. LacksByte line_feed l.text) ls
 
 one_row : (word : List ℕ) (l : Line) (ls : List Line) → formed word l ≡ true → LacksByte line_feed l.text → RowsOf (codes "at") ls → RowsOf word (l ∷ ls)
 one_row word l ls f clear (rs, rows, text, count) =

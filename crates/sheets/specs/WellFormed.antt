@@ -1,7 +1,7 @@
 -- The form of a sheet as it is written: rows of five fields. Assumes nothing.
 use Rattle.std.specs.Prelude.{◌≡◌, ℕ, ◌+◌, ◌<◌, ◌≤◌, List, [], ◌∷◌, ◌++◌, length, Ok, Err, codes, Result, ◌≢◌}
 use Rattle.std.specs.Str.Iter.{LacksByte}
-use Rattle.std.specs.List.{join_with_byte, flat_map, AllByRecursion as All}
+use Rattle.std.specs.List.{join_with_byte, flat_map, AllByRecursion}
 use Rattle.text.specs.Parts.{tab, line_feed}
 use Rattle.refusals.specs.declared.refusal.Refusal.{Refusal}
 use Rattle.sheets.specs.Form.{longest, too_long, misformed_at}
@@ -24,8 +24,8 @@ row_text r = join_with_byte tab (row_fields r) ++ (line_feed ∷ [])
 -- the row begins with the word, and no field has a tab or a line feed
 pub record Begins (word : List ℕ) (r : Row) : Type 0 where
   pub first : r.word ≡ word
-  pub no_tab : All (LacksByte tab) (row_fields r)
-  pub no_feed : All (LacksByte line_feed) (row_fields r)
+  pub no_tab : AllByRecursion (LacksByte tab) (row_fields r)
+  pub no_feed : AllByRecursion (LacksByte line_feed) (row_fields r)
 
 -- rows that begin with the word, and after the first with `at`
 abbrev pub Rows : List ℕ → List Row → Type 0

@@ -1,5 +1,5 @@
 -- A sheet is refused by the first condition met. Assumes nothing.
-use Rattle.std.proofs.Common.{◌≡◌, ℕ, zero, suc, ◌+◌, ◌<◌, ◌≤◌, Bool, true, false, cond, ltb, ◌⊎◌, List, [], ◌∷◌, ◌++◌, length, Some, None, Ok, Err, Option, Result, sym, refl, ap, ◌∙◌, subst, inl, inr, append_assoc, le_refl, arith, lit<}
+use Rattle.std.proofs.Common.{◌≡◌, ℕ, zero, suc, ◌+◌, ◌<◌, ◌≤◌, true, false, ltb, ◌⊎◌, List, [], ◌∷◌, ◌++◌, length, Some, None, Option, sym, refl, ap, ◌∙◌, subst, inl, inr, append_assoc, le_refl, arith, lit<}
 use Rattle.std.specs.List.{slice_get}
 use Rattle.std.proofs.lemmas.List.{append-nil, length-append}
 use Rattle.std.proofs.lemmas.Bool.{cases_Bool, cond-true, cond-false, lt-ltb, ltb-true, both_ways}
@@ -9,8 +9,7 @@ use Rattle.refusals.specs.declared.fault.Fault.{Fault}
 use Rattle.refusals.specs.declared.fault.Fault.TheVariants.{SheetTooLong, LineForm, StepMissing}
 use Rattle.refusals.specs.declared.refusal.Refusal.{Refusal}
 use Rattle.refusals.specs.Numbers.{number_of}
-use Rattle.two_way.specs.Automaton.{Automaton}
-use Rattle.spelling.specs.Conditions.{longest, Condition, first_met, conditions, rule_conditions, lacks, refusal_at, or_else, refused_from, refused_lines, refused}
+use Rattle.spelling.specs.Conditions.{longest, Condition, first_met, conditions, lacks, refusal_at, or_else, refused_from, refused_lines, refused}
 use Rattle.spelling.specs.Reading.{sheet_read, read_as, rule_of}
 use Rattle.spelling.specs.Judged.{Meets, too_long, empty, on_line, missing, Before, FirstMet}
 

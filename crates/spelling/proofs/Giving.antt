@@ -1,26 +1,25 @@
 -- The rule of the lines is the one rule that the sheet gives, and it is lawful. Assumes nothing.
-use Rattle.std.proofs.Common.{◌≡◌, ℕ, zero, suc, ◌+◌, ◌<◌, ◌≤◌, Bool, true, false, cond, ◌&&◌, ltb, ◌⊎◌, List, [], ◌∷◌, ◌++◌, length, get_or, is_some, Some, None, Option, unwrap_or, sym, refl, ap, ◌∙◌, subst, inl, inr, arith}
-use Rattle.std.specs.List.{AllByRecursion as All, slice_get}
+use Rattle.std.proofs.Common.{◌≡◌, ℕ, zero, suc, ◌+◌, ◌<◌, false, ◌⊎◌, List, [], ◌∷◌, length, get_or, Some, Option, unwrap_or, sym, refl, ap, ◌∙◌, subst, inl, inr, arith}
+use Rattle.std.specs.List.{AllByRecursion, slice_get}
 use Rattle.std.specs.Str.{bytes_eq}
 use Rattle.std.proofs.lemmas.Slice.Eq.{bytes_eq-Decides}
 use Rattle.std.proofs.lemmas.Option.{slice_get-get_or}
 use Rattle.std.proofs.lemmas.Bool.{cases_Bool, cases_lt, both_ways, and_from, and_left, and_right, lt-ltb, le-ltb, cond-true, cond-false}
 use Rattle.text.specs.Lines.{Line}
-use Rattle.two_way.specs.Automaton.{Automaton, Lawful, Keeps, left_end as left_column, right_end as right_column, Way, L, R}
+use Rattle.two_way.specs.Automaton.{Automaton, Lawful, Keeps, right_end as right_column, Way, L, R}
 use Rattle.rules.specs.Steps.{onward}
 use Rattle.register.specs.Keys.{Differ}
-use Rattle.spelling.specs.Said.{field, in_order, names, state_of, letters, halts, entry_for}
+use Rattle.spelling.specs.Said.{field, names, state_of, letters, halts, entry_for}
 use Rattle.spelling.specs.Conditions.{entry_direction}
 use Rattle.spelling.specs.Reading.{step_of, step_in, rule_of}
 use Rattle.spelling.specs.Spells.{Column, left_end, right_end, letter, Entry, Sheet, said, all_names, order, column_number, way_number, Halting, Turning, Allowed, EntryAt, Proper, Numbered, Gives}
-use Rattle.spelling.proofs.First.{option}
 use Rattle.spelling.proofs.Order.{In, nth_in, nth_one, state_is, getD_is, one_place, has_order, order_differ}
-use Rattle.spelling.proofs.Wording.{InRange, column_below, right_way}
-use Rattle.spelling.proofs.Linewise.{Says, Heads, some_is}
-use Rattle.spelling.proofs.Sheetwise.{AllSay, Found, found_some}
+use Rattle.spelling.proofs.Wording.{column_below, right_way}
+use Rattle.spelling.proofs.Linewise.{Heads, some_is}
+use Rattle.spelling.proofs.Sheetwise.{AllSay, found_some}
 use Rattle.spelling.proofs.Properly.{letters_is, halts_so, going, entry_at, found_is, found_at, order_is}
 
-all_at : {X : Type 0} (Q : X → Type 0) (xs : List X) → All Q xs → (i : ℕ) (x : X) → slice_get xs i ≡ Some x → Q x
+all_at : {X : Type 0} (Q : X → Type 0) (xs : List X) → AllByRecursion Q xs → (i : ℕ) (x : X) → slice_get xs i ≡ Some x → Q x
 all_at Q [] a i x e = absurd (let z : ◌≡◌ {A = ℕ} 0 1 = cc in omega arith)
 all_at Q (y ∷ xs) a zero x e = let same : y ≡ x = cc in subst Q same a.0
 all_at Q (y ∷ xs) a (suc i) x e = all_at Q xs a.1 i x e

@@ -1,8 +1,7 @@
 -- Lines and what they say: an entry, or the rule's first line. Assumes nothing.
-use Rattle.std.proofs.Common.{◌≡◌, ℕ, zero, suc, ◌+◌, ◌<◌, ◌≤◌, Bool, true, false, cond, ◌&&◌, eqb, leb, ◌⊎◌, List, [], ◌∷◌, ◌++◌, map, length, get_or, is_some, Some, None, codes, decimal, Option, sym, refl, ap, ◌∙◌, subst, inl, inr, arith}
+use Rattle.std.proofs.Common.{◌≡◌, ℕ, ◌≤◌, true, cond, eqb, List, [], ◌∷◌, ◌++◌, length, get_or, is_some, Some, None, codes, decimal, Option, sym, refl, ap, ◌∙◌, subst, arith}
 use Rattle.std.specs.Str.Iter.{LacksByte}
-use Rattle.std.specs.List.{join_with_byte, flat_map, AllByRecursion as All}
-use Rattle.std.specs.Str.{bytes_eq}
+use Rattle.std.specs.List.{join_with_byte, AllByRecursion}
 use Rattle.std.proofs.lemmas.Slice.Eq.{bytes_eq-Decides}
 use Rattle.std.proofs.lemmas.Bool.{and_parts, and_from, false≢true, eqb-true, leb-true, le-leb}
 use Rattle.text.specs.Parts.{parts, tab, line_feed}
@@ -12,8 +11,7 @@ use Rattle.text.proofs.Lining.{lines_cons}
 use Rattle.spelling.specs.Words.{is_name, letters_of, column_of, direction_of}
 use Rattle.spelling.specs.Said.{field}
 use Rattle.spelling.specs.Conditions.{formed}
-use Rattle.spelling.specs.Spells.{Column, Entry, Sheet, Name, line_text, column_text, column_number, way_text, way_number, entry_fields, entry_text, rule_fields}
-use Rattle.spelling.proofs.First.{option}
+use Rattle.spelling.specs.Spells.{Entry, Sheet, Name, line_text, column_text, column_number, way_text, way_number, entry_fields, entry_text, rule_fields}
 use Rattle.spelling.proofs.Wording.{letters_read, letters_written, plain_decimal, InRange, column_read, column_written, column_plain, way_read, way_written, way_plain}
 
 -- the five fields of a line
@@ -32,7 +30,7 @@ split_five (a ∷ b ∷ c ∷ d ∷ e ∷ f ∷ fs) h = absurd (let n = eqb-true
 pub record Five (word : List ℕ) (l : Line) : Type 0 where
   pub fields : parts tab l.text ≡ five word l
   pub text : line_bytes l ≡ line_text (five word l)
-  pub no_tab : All (LacksByte tab) (five word l)
+  pub no_tab : AllByRecursion (LacksByte tab) (five word l)
 
 pub five_of : (word : List ℕ) (l : Line) → formed word l ≡ true → Five word l
 five_of word l f =
@@ -44,10 +42,10 @@ five_of word l f =
     record {
       fields = fields;
       text = λ i. (sym so.whole ∙ ap (join_with_byte tab) fields) i ++ cond (p.0 i) (line_feed ∷ []) [];
-      no_tab = subst (All (LacksByte tab)) fields so.clear;
+      no_tab = subst (AllByRecursion (LacksByte tab)) fields so.clear;
     }
 
-pub no_feed : (word : List ℕ) (l : Line) → Five word l → LacksByte line_feed l.text → All (LacksByte line_feed) (five word l)
+pub no_feed : (word : List ℕ) (l : Line) → Five word l → LacksByte line_feed l.text → AllByRecursion (LacksByte line_feed) (five word l)
 no_feed word l v clear =
     let whole : join_with_byte tab (five word l) ≡ l.text = ap (join_with_byte tab) (sym v.fields) ∙ (parted tab l.text).whole in
     lacks_parts line_feed tab (five word l) (subst (LacksByte line_feed) (sym whole) clear)
@@ -56,7 +54,7 @@ no_feed word l v clear =
 abbrev pub line_with : List (List ℕ) → Line
 line_with fs = record { text = join_with_byte tab fs; ended = true }
 
-module _ (a b c d e : List ℕ) (clean : All (LacksByte tab) (a ∷ b ∷ c ∷ d ∷ e ∷ [])) where
+module _ (a b c d e : List ℕ) (clean : AllByRecursion (LacksByte tab) (a ∷ b ∷ c ∷ d ∷ e ∷ [])) where
   with_parts : parts tab (join_with_byte tab (a ∷ b ∷ c ∷ d ∷ e ∷ [])) ≡ a ∷ b ∷ c ∷ d ∷ e ∷ []
   with_parts = parts_rejoined tab (a ∷ b ∷ c ∷ d ∷ e ∷ []) (λ n. let z : ◌≡◌ {A = ℕ} 0 1 = cc in omega arith) clean
 
@@ -123,10 +121,10 @@ entry_read m l clear f n2 n4 c d =
 
 -- written: the line that says an entry
 module _ (m : ℕ) (e : Entry) (few : m ≤ 16) (range : InRange m e.column) (state : Name e.state) (next : Name e.next) where
-  entry_tabs : All (LacksByte tab) (entry_fields e)
+  entry_tabs : AllByRecursion (LacksByte tab) (entry_fields e)
   entry_tabs = (lacks_from_test tab (codes "at") refl, (state.no_tab, ((column_plain m e.column few range).0, (next.no_tab, ((way_plain e.way).0, tt)))))
 
-  entry_feeds : All (LacksByte line_feed) (entry_fields e)
+  entry_feeds : AllByRecursion (LacksByte line_feed) (entry_fields e)
   entry_feeds = (lacks_from_test line_feed (codes "at") refl, (state.no_feed, ((column_plain m e.column few range).1, (next.no_feed, ((way_plain e.way).1, tt)))))
 
   at_field : (n : ℕ) → field n (line_with (entry_fields e)) ≡ get_or ([] ∷ entry_fields e) n []
@@ -175,10 +173,10 @@ rule_read h clear f n3 n4 n5 m =
     }
 
 module _ (S : Sheet) (low : 1 ≤ S.letters) (high : S.letters ≤ 16) (start : Name S.start) (accept : Name S.accept) (reject : Name S.reject) where
-  rule_tabs : All (LacksByte tab) (rule_fields S)
+  rule_tabs : AllByRecursion (LacksByte tab) (rule_fields S)
   rule_tabs = (lacks_from_test tab (codes "rule") refl, ((plain_decimal S.letters high).0, (start.no_tab, (accept.no_tab, (reject.no_tab, tt)))))
 
-  rule_feeds : All (LacksByte line_feed) (rule_fields S)
+  rule_feeds : AllByRecursion (LacksByte line_feed) (rule_fields S)
   rule_feeds = (lacks_from_test line_feed (codes "rule") refl, ((plain_decimal S.letters high).1, (start.no_feed, (accept.no_feed, (reject.no_feed, tt)))))
 
   head_field : (n : ℕ) → field n (line_with (rule_fields S)) ≡ get_or ([] ∷ rule_fields S) n []

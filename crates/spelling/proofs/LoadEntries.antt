@@ -1,6 +1,6 @@
 -- The entry that is found for a name and a column, and the columns that lack one.
 use Rattle.std.proofs.Common.{◌≡◌, ℕ, zero, suc, ◌+◌, ◌<◌, true, false, cond, not, ◌&&◌, List, [], ◌∷◌, ◌++◌, is_some, Some, None, Decides, Option, sym, refl, ap, ◌∙◌, subst, inl, inr}
-use Rattle.std.specs.List.{AllByRecursion as All, slice_get}
+use Rattle.std.specs.List.{AllByRecursion, slice_get}
 use Rattle.std.proofs.lemmas.Slice.Eq.{bytes_eq-Decides}
 use Rattle.std.proofs.lemmas.Bool.{cases_Bool, both_ways, and_parts, and_from, or_left, or_right, or_cases, not-true, not_from_false}
 use Rattle.std.proofs.lemmas.Bool.Decides.{Decides-below_or}
@@ -10,7 +10,7 @@ use Rattle.spelling.specs.Conditions.{entry_direction, lacks_below, any_lacks}
 use Rattle.spelling.specs.Reading.{step_of}
 use Rattle.spelling.proofs.LoadNames.{none_some, place, Has, Known, state_is}
 
-pub found_in : (P : Line → Type 0) (m : ℕ) (x : List ℕ) (c : ℕ) (es : List Line) (e : Line) → All P es → found m x c es ≡ Some e → P e × (is_for m x c e ≡ true)
+pub found_in : (P : Line → Type 0) (m : ℕ) (x : List ℕ) (c : ℕ) (es : List Line) (e : Line) → AllByRecursion P es → found m x c es ≡ Some e → P e × (is_for m x c e ≡ true)
 found_in P m x c [] e a h = absurd (none_some e h)
 found_in P m x c (y ∷ es) e a h = elim (cases_Bool (is_for m x c y)) [
   | inl t ↦

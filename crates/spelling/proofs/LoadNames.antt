@@ -1,6 +1,6 @@
 -- Names in their order of arrival, and the places that they have.
 use Rattle.std.proofs.Common.{◌≡◌, ℕ, zero, suc, Bool, true, false, cond, ◌⊎◌, List, [], ◌∷◌, ◌++◌, length, is_some, Some, None, Option, unwrap_or, sym, refl, ap, ◌∙◌, subst, inl, inr, arith}
-use Rattle.std.specs.List.{AllByRecursion as All, slice_get}
+use Rattle.std.specs.List.{AllByRecursion, slice_get}
 use Rattle.std.specs.Str.{bytes_eq}
 use Rattle.std.proofs.lemmas.Slice.Eq.{bytes_eq-Decides}
 use Rattle.text.specs.Lines.{Line}
@@ -104,7 +104,7 @@ order_kept (y ∷ xs) ns x h = order_kept xs (with_name ns y) x (has_kept ns y x
 
 -- the names on the entries have places
 abbrev pub Known : List (List ℕ) → List Line → Type 0
-Known ns es = All (λ (e : Line). Has ns (field 2 e) × Has ns (field 4 e)) es
+Known ns es = AllByRecursion (λ (e : Line). Has ns (field 2 e) × Has ns (field 4 e)) es
 
 known_order : (es : List Line) (ns : List (List ℕ)) → Known (in_order ns (entry_names es)) es
 known_order [] ns = tt

@@ -1,12 +1,12 @@
 -- Names in their order of appearance: each has one place, and keeps it. Assumes nothing.
-use Rattle.std.proofs.Common.{◌≡◌, ℕ, zero, suc, ◌+◌, ◌<◌, ◌≤◌, Bool, true, false, cond, ◌⊎◌, List, [], ◌∷◌, ◌++◌, length, get_or, Some, None, Option, unwrap_or, sym, refl, ap, ◌∙◌, subst, inl, inr, not-suc-le-zero, zero-lt-suc, arith}
+use Rattle.std.proofs.Common.{◌≡◌, ℕ, zero, suc, ◌+◌, ◌<◌, ◌≤◌, List, [], ◌∷◌, ◌++◌, length, get_or, Some, None, Option, unwrap_or, sym, refl, ap, ◌∙◌, subst, inl, inr, not-suc-le-zero, arith}
 use Rattle.std.specs.List.{slice_get}
 use Rattle.std.specs.Str.{bytes_eq}
 use Rattle.std.proofs.lemmas.Slice.Eq.{bytes_eq-Decides}
 use Rattle.std.proofs.lemmas.Option.{slice_get-get_or, slice_get_past as nth_past}
 use Rattle.std.proofs.lemmas.Bool.{cases_lt}
-use Rattle.register.specs.Keys.{place_of, with_key, At, Absent, Differ}
-use Rattle.register.proofs.Places.{Fair, place_at, place_absent, place_here}
+use Rattle.register.specs.Keys.{place_of, At, Differ}
+use Rattle.register.proofs.Places.{place_at, place_absent, place_here}
 use Rattle.register.proofs.Adding.{push_differ, push_new, push_old}
 use Rattle.spelling.specs.Said.{with_name, in_order, state_of}
 use Rattle.spelling.proofs.First.{option}

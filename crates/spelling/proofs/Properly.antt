@@ -1,20 +1,20 @@
 -- A sheet keeps its rules exactly when the lines that say it meet no condition. Assumes nothing.
-use Rattle.std.proofs.Common.{◌≡◌, ℕ, zero, suc, ◌+◌, ◌<◌, ◌≤◌, Bool, true, false, not, ◌&&◌, ◌||◌, ◌⊎◌, List, [], ◌∷◌, ◌++◌, length, is_some, Some, None, Option, unwrap_or, sym, refl, ap, ◌∙◌, subst, inl, inr, append_assoc, suc-le-suc, le_of_suc-le-suc, not-suc-le-zero, arith}
-use Rattle.std.specs.List.{AllByRecursion as All, slice_get}
+use Rattle.std.proofs.Common.{◌≡◌, ℕ, zero, suc, ◌+◌, ◌<◌, ◌≤◌, true, false, not, ◌&&◌, ◌||◌, List, [], ◌∷◌, ◌++◌, length, is_some, Some, None, Option, unwrap_or, sym, refl, ap, ◌∙◌, subst, inl, inr, append_assoc, le_of_suc-le-suc, not-suc-le-zero, arith}
+use Rattle.std.specs.List.{AllByRecursion, slice_get}
 use Rattle.std.specs.Str.{bytes_eq}
 use Rattle.std.proofs.lemmas.Slice.Eq.{bytes_eq-Decides}
-use Rattle.std.proofs.lemmas.List.{append-nil, length-append, length_push}
-use Rattle.std.proofs.lemmas.Bool.{cases_Bool, cases_lt, cases_order, both_ways, or_cases, or_parts, or_from, or_left, or_right, and_cases, and_left, and_right, not-false, not_from_true, false≢true, ltb-false, le-ltb}
+use Rattle.std.proofs.lemmas.List.{append-nil, length_push}
+use Rattle.std.proofs.lemmas.Bool.{cases_Bool, cases_lt, cases_order, both_ways, or_cases, or_parts, or_from, or_left, or_right, and_cases, and_left, and_right, not-false, not_from_true, false≢true, le-ltb}
 use Rattle.text.specs.Lines.{Line}
-use Rattle.spelling.specs.Words.{is_name, column_of, direction_of}
+use Rattle.spelling.specs.Words.{is_name, column_of}
 use Rattle.spelling.specs.Said.{field, with_name, in_order, names, letters, halts, found, entry_for}
 use Rattle.spelling.specs.Conditions.{wrong_way, entry_column, entry_direction, one_too_many, lacks_below, any_lacks, lacks}
-use Rattle.spelling.specs.Spells.{Entry, Sheet, Name, said, all_names, order, column_number, way_number, Halting, Turning, Allowed, EntryAt, Proper, Numbered}
+use Rattle.spelling.specs.Spells.{Entry, Sheet, Name, said, order, column_number, way_number, Halting, Allowed, EntryAt, Proper, Numbered}
 use Rattle.spelling.proofs.First.{option}
-use Rattle.spelling.proofs.Order.{nth_in, nth_one, order_more, more_order, more_with}
+use Rattle.spelling.proofs.Order.{nth_in, order_more, more_order, more_with}
 use Rattle.spelling.proofs.Wording.{turns, right_way}
 use Rattle.spelling.proofs.Linewise.{Says, Heads, some_is, name_is}
-use Rattle.spelling.proofs.Sheetwise.{AllSay, say_more, say_names, said_more, Found, For, found_some, found_none, column_said, Fine, FineFrom, none_lacks}
+use Rattle.spelling.proofs.Sheetwise.{AllSay, say_more, say_names, said_more, Found, For, found_some, found_none, column_said, Fine, FineFrom}
 
 none_is : {X : Type 0} (o : Option X) → is_some o ≡ false → o ≡ None
 none_is None e = refl
@@ -114,7 +114,7 @@ module _ (h : Line) (S : Sheet) (H : Heads h S) where
       turns = turns S.letters e.column e.way s.range (sym way_is ∙ f.turns_back);
     }
 
-  pub all_allowed : (done ls : List Line) (es : List Entry) → AllSay S.letters ls es → FineFrom h done ls → All (Allowed S) es
+  pub all_allowed : (done ls : List Line) (es : List Entry) → AllSay S.letters ls es → FineFrom h done ls → AllByRecursion (Allowed S) es
   all_allowed done [] [] a f = tt
   all_allowed done [] (e ∷ es) a f = absurd a
   all_allowed done (l ∷ ls) [] a f = absurd a
@@ -243,7 +243,7 @@ module _ (h : Line) (S : Sheet) (H : Heads h S) where
           new = new_of done ds es l e b s w;
         }
 
-    pub fine_lines : (done ls : List Line) (ds es : List Entry) → AllSay S.letters done ds → AllSay S.letters ls es → S.entries ≡ ds ++ es → All Name (said es) → All (Allowed S) es → FineFrom h done ls
+    pub fine_lines : (done ls : List Line) (ds es : List Entry) → AllSay S.letters done ds → AllSay S.letters ls es → S.entries ≡ ds ++ es → AllByRecursion Name (said es) → AllByRecursion (Allowed S) es → FineFrom h done ls
     fine_lines done [] ds [] b a w n k = lacks_of done (subst (AllSay S.letters done) (sym (w ∙ append-nil ds)) b) P
     fine_lines done [] ds (e ∷ es) b a w n k = absurd a
     fine_lines done (l ∷ ls) ds [] b a w n k = absurd a

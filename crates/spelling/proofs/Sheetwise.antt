@@ -1,21 +1,19 @@
 -- Lines and the sheet that they say, entry by entry; and the conditions of all lines. Assumes nothing.
-use Rattle.std.proofs.Common.{◌≡◌, ℕ, zero, suc, ◌+◌, ◌<◌, ◌≤◌, Bool, true, false, cond, not, ◌&&◌, ◌||◌, eqb, ltb, ◌⊎◌, List, [], ◌∷◌, ◌++◌, length, is_some, Some, None, codes, Option, unwrap_or, sym, refl, ap, ◌∙◌, subst, inl, inr, append_assoc, arith}
-use Rattle.std.specs.List.{AllByRecursion as All, slice_get}
+use Rattle.std.proofs.Common.{◌≡◌, ℕ, zero, suc, ◌+◌, ◌≤◌, Bool, true, false, ◌&&◌, eqb, List, [], ◌∷◌, ◌++◌, length, is_some, Some, None, codes, Option, unwrap_or, sym, refl, ap, ◌∙◌, subst, inl, inr, append_assoc, arith}
+use Rattle.std.specs.List.{slice_get}
 use Rattle.std.specs.Str.{bytes_eq}
 use Rattle.std.proofs.lemmas.Slice.Eq.{bytes_eq-Decides}
-use Rattle.std.proofs.lemmas.List.{append-nil, length-append, length_push}
-use Rattle.std.proofs.lemmas.Bool.{cases_Bool, both_ways, and_parts, and_from, and_cases, or_cases, or_parts, or_from, or_left, or_right, not-false, not_from_true, false≢true, eqb-true, eq-eqb, ltb-false, le-ltb, cond-true, cond-false}
+use Rattle.std.proofs.lemmas.List.{append-nil}
+use Rattle.std.proofs.lemmas.Bool.{cases_Bool, both_ways, and_parts, and_from, not-false, eqb-true, eq-eqb, ltb-false, cond-true, cond-false}
 use Rattle.text.specs.Lines.{Line}
 use Rattle.refusals.specs.declared.fault.Fault.{Fault}
 use Rattle.refusals.specs.declared.refusal.Refusal.{Refusal}
 use Rattle.spelling.specs.Words.{is_name, letters_of, column_of, direction_of}
-use Rattle.spelling.specs.Said.{field, with_name, in_order, entry_names, spoken, names, letters, halts, is_for, found, entry_for}
-use Rattle.spelling.specs.Conditions.{Condition, if_met, first_of, first_met, formed, wrong_way, entry_column, entry_direction, one_too_many, rule_conditions, conditions, lacks_below, any_lacks, lacks, or_else, refused_from}
-use Rattle.spelling.specs.Spells.{Entry, Sheet, Name, said, all_names, order, column_number, way_number, Halting, Turning, Allowed, EntryAt, Proper, Numbered}
-use Rattle.spelling.proofs.First.{option}
-use Rattle.spelling.proofs.Order.{nth_in, nth_one, order_more, more_order, more_with}
-use Rattle.spelling.proofs.Wording.{turns, right_way}
-use Rattle.spelling.proofs.Linewise.{Says, Heads, some_is, name_is}
+use Rattle.spelling.specs.Said.{field, with_name, in_order, entry_names, names, letters, halts, is_for, found, entry_for}
+use Rattle.spelling.specs.Conditions.{Condition, if_met, first_of, first_met, formed, wrong_way, entry_column, entry_direction, one_too_many, rule_conditions, conditions, lacks, or_else, refused_from}
+use Rattle.spelling.specs.Spells.{Entry, said, column_number}
+use Rattle.spelling.proofs.Order.{order_more}
+use Rattle.spelling.proofs.Linewise.{Says}
 
 -- each line says its entry
 abbrev pub AllSay : ℕ → List Line → List Entry → Type 0

@@ -1,7 +1,7 @@
 -- A sheet is read as the rule that it spells, and as no other. Assumes nothing.
-use Rattle.std.proofs.Common.{◌≡◌, ℕ, ◌+◌, ◌<◌, ◌≤◌, Bool, true, false, ltb, ◌⊎◌, List, [], ◌∷◌, ◌++◌, length, is_some, Some, None, Ok, Err, codes, Option, Result, unwrap_or, sym, refl, ap, ◌∙◌, subst, inl, inr, arith}
+use Rattle.std.proofs.Common.{◌≡◌, ℕ, ◌≤◌, true, ltb, List, [], ◌∷◌, ◌++◌, length, is_some, Some, None, Option, unwrap_or, sym, refl, ap, ◌∙◌, subst, inl, inr, arith}
 use Rattle.std.specs.Str.Iter.{LacksByte}
-use Rattle.std.specs.List.{flat_map, AllByRecursion as All}
+use Rattle.std.specs.List.{flat_map, AllByRecursion}
 use Rattle.std.specs.Str.{bytes_eq}
 use Rattle.std.proofs.lemmas.Slice.Eq.{bytes_eq-Decides}
 use Rattle.std.proofs.lemmas.Bool.{cases_Bool, both_ways, ltb-false, le-ltb}
@@ -12,29 +12,29 @@ use Rattle.refusals.specs.declared.fault.Fault.{Fault}
 use Rattle.refusals.specs.declared.refusal.Refusal.{Refusal}
 use Rattle.two_way.specs.Automaton.{Automaton, Lawful}
 use Rattle.spelling.specs.Words.{is_name, column_of}
-use Rattle.spelling.specs.Said.{field, with_name, in_order, names, letters}
+use Rattle.spelling.specs.Said.{field, with_name, in_order, letters}
 use Rattle.spelling.specs.Conditions.{longest, or_else, refused_from, refused_lines, refused}
 use Rattle.spelling.specs.Reading.{rule_of, read_as, sheet_read}
-use Rattle.spelling.specs.Spells.{Entry, Sheet, Name, line_text, entry_fields, entry_text, rule_fields, sheet_text, said, order, column_number, Turning, Allowed, Proper, Gives, Spells}
+use Rattle.spelling.specs.Spells.{Entry, Sheet, Name, entry_fields, entry_text, rule_fields, sheet_text, said, Allowed, Proper, Spells}
 use Rattle.spelling.specs.Judged.{Spelled}
 use Rattle.spelling.proofs.First.{is_long, is_short}
 use Rattle.spelling.proofs.Order.{few_with}
 use Rattle.spelling.proofs.Wording.{right_way}
-use Rattle.spelling.proofs.Linewise.{Says, Heads, line_with, EntryRead, entry_read, entry_says, entry_line, RuleRead, rule_read, rule_heads, rule_line, name_is}
-use Rattle.spelling.proofs.Sheetwise.{AllSay, Fine, FineRule, FineFrom, fine_rule_of, of_fine_rule, fine_from, from_fine, none_lacks, few_names, none_else}
+use Rattle.spelling.proofs.Linewise.{Heads, line_with, entry_read, entry_says, entry_line, rule_read, rule_heads, rule_line, name_is}
+use Rattle.spelling.proofs.Sheetwise.{AllSay, FineRule, FineFrom, fine_rule_of, of_fine_rule, fine_from, from_fine, none_lacks, few_names, none_else}
 use Rattle.spelling.proofs.Properly.{order_is, all_allowed, once_of, each_of, fine_lines}
 use Rattle.spelling.proofs.Giving.{lines_give, gives_one, gives_lawful}
 
 -- no line has a line feed inside
 abbrev Clear : List Line → Type 0
-Clear ls = All (λ l. LacksByte line_feed l.text) ls
+Clear ls = AllByRecursion (λ l. LacksByte line_feed l.text) ls
 
 -- the entries that lines say, and their text
 pub record EntriesRead (m : ℕ) (ls : List Line) : Type 0 where
   pub entries : List Entry
   pub say : AllSay m ls entries
   pub text : flat_map line_bytes ls ≡ flat_map entry_text entries
-  pub named : All Name (said entries)
+  pub named : AllByRecursion Name (said entries)
 
 module _ (h : Line) (m : ℕ) (m_is : (done : List Line) → letters (h ∷ done) ≡ m) where
   entries_read : (done ls : List Line) → Clear ls → FineFrom h done ls → EntriesRead m ls
@@ -124,7 +124,7 @@ entry_lines [] = []
 entry_lines (e ∷ es) = line_with (entry_fields e) ∷ entry_lines es
 
 module _ (S : Sheet) (P : Proper S) where
-  written : (es : List Entry) → All Name (said es) → All (Allowed S) es → AllSay S.letters (entry_lines es) es × (lines (flat_map entry_text es) ≡ entry_lines es)
+  written : (es : List Entry) → AllByRecursion Name (said es) → AllByRecursion (Allowed S) es → AllSay S.letters (entry_lines es) es × (lines (flat_map entry_text es) ≡ entry_lines es)
   written [] n k = (tt, refl)
   written (e ∷ es) n k =
       let range = (right_way S.letters e.column e.way k.0.turns).0 in

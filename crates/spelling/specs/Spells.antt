@@ -1,7 +1,7 @@
 -- What is written on a sheet, and the rule that it spells: the format as a librarian knows it. Assumes nothing.
 use Rattle.std.specs.Prelude.{◌≡◌, ℕ, ◌+◌, ◌<◌, ◌≤◌, ◌⊎◌, List, [], ◌∷◌, ◌++◌, length, Some, None, codes, decimal}
 use Rattle.std.specs.Str.Iter.{LacksByte}
-use Rattle.std.specs.List.{join_with_byte, flat_map, AllByRecursion as All, slice_get}
+use Rattle.std.specs.List.{join_with_byte, flat_map, AllByRecursion, slice_get}
 use Rattle.two_way.specs.Automaton.{Automaton, Keeps, Way, L, R}
 use Rattle.text.specs.Parts.{tab, line_feed}
 use Rattle.spelling.specs.Said.{in_order}
@@ -108,10 +108,10 @@ pub record EntryAt (S : Sheet) (x : List ℕ) (c i : ℕ) : Type 0 where
 pub record Proper (S : Sheet) : Type 0 where
   pub letters_low : 1 ≤ S.letters
   pub letters_high : S.letters ≤ 16
-  pub named : All Name (all_names S)
+  pub named : AllByRecursion Name (all_names S)
   pub few : length (order S) ≤ 32
   pub apart : S.accept ≡ S.reject → ⊥
-  pub allowed : All (Allowed S) S.entries
+  pub allowed : AllByRecursion (Allowed S) S.entries
   -- every state that neither accepts nor rejects has one entry for each column
   pub each : (x : List ℕ) (q c : ℕ) → Numbered S x q → (Halting S x → ⊥) → c < S.letters + 2 → (i : ℕ) × EntryAt S x c i
   pub once : (x : List ℕ) (c i j : ℕ) → EntryAt S x c i → EntryAt S x c j → i ≡ j

@@ -1,7 +1,7 @@
 -- A text is its lines one after another, and has these lines only.
 use Rattle.std.proofs.Common.{◌≡◌, ℕ, ◌<◌, ◌≤◌, Bool, true, false, cond, List, [], ◌∷◌, ◌++◌, length, sym, refl, ap, ◌∙◌, append_assoc, suc-le-suc, zero-le, not-suc-le-zero, zero-lt-suc, arith}
 use Rattle.std.specs.Str.Iter.{LacksByte}
-use Rattle.std.specs.List.{join_with_byte, flat_map, AllByRecursion as All}
+use Rattle.std.specs.List.{join_with_byte, flat_map, AllByRecursion}
 use Rattle.std.proofs.lemmas.List.{append-nil, length-append, nil_from_length}
 use Rattle.text.specs.Parts.{parts, line_feed, Parted}
 use Rattle.text.specs.Lines.{Line, lines, as_lines, line_bytes, Ended, LinedAs, Lined}
@@ -48,7 +48,7 @@ lines_last p true f h = lines_cons p [] f
 lines_last p false f h =
     ap lines (append-nil (p ++ []) ∙ append-nil p) ∙ ap as_lines (parts_one line_feed p f) ∙ line_last p (h refl)
 
-pub lines_joined : (ls : List Line) → All (λ l. LacksByte line_feed l.text) ls → Ended ls → lines (flat_map line_bytes ls) ≡ ls
+pub lines_joined : (ls : List Line) → AllByRecursion (λ l. LacksByte line_feed l.text) ls → Ended ls → lines (flat_map line_bytes ls) ≡ ls
 lines_joined [] f h = refl
 lines_joined (l ∷ []) f h = lines_last l.text l.ended f.0 h
 lines_joined (l ∷ k ∷ ls) f h =

@@ -2,7 +2,7 @@
 use Rattle.std.proofs.Common.{◌≡◌, ℕ, zero, suc, ◌+◌, ◌-◌, ◌<◌, ◌≤◌, Bool, true, false, cond, eqb, List, [], ◌∷◌, ◌++◌, length, get_or, take, drop, sym, refl, ap, ◌∙◌, inl, inr, suc-le-suc, le_of_suc-le-suc, not-suc-le-zero, zero-lt-suc, add-one, arith, take_all}
 use native.Mathlib.Nat.{sub-zero}
 use Rattle.std.specs.Str.Iter.{LacksByte}
-use Rattle.std.specs.List.{join_with_byte, AllByRecursion as All}
+use Rattle.std.specs.List.{join_with_byte, AllByRecursion}
 use Rattle.std.proofs.lemmas.List.{take_rest, nil_from_length}
 use Rattle.std.proofs.lemmas.Bool.{cases_Bool, eq-eqb, ne_eqb, eqb-true, eqb-false, both_ways}
 use Rattle.text.specs.Parts.{parts, onto, Parted, PartedOnly}
@@ -59,7 +59,7 @@ pub parts_one : (x : ℕ) (p : List ℕ) → LacksByte x p → parts x p ≡ p �
 parts_one x [] f = refl
 parts_one x (b ∷ p) f = rw (lacks_first x b p f) (ap (onto b) (parts_one x p (lacks_rest x b p f)))
 
-pub parts_rejoined : (x : ℕ) (ps : List (List ℕ)) → (ps ≡ [] → ⊥) → All (LacksByte x) ps → parts x (join_with_byte x ps) ≡ ps
+pub parts_rejoined : (x : ℕ) (ps : List (List ℕ)) → (ps ≡ [] → ⊥) → AllByRecursion (LacksByte x) ps → parts x (join_with_byte x ps) ≡ ps
 parts_rejoined x [] n f = absurd (n refl)
 parts_rejoined x (p ∷ []) n f = parts_one x p f.0
 parts_rejoined x (p ∷ q ∷ ps) n f =
@@ -120,13 +120,13 @@ lacks_back : (x : ℕ) (p q : List ℕ) → LacksByte x (p ++ q) → LacksByte x
 lacks_back x [] q f = f
 lacks_back x (b ∷ p) q f = lacks_back x p q (lacks_rest x b (p ++ q) f)
 
-pub lacks_rejoined : (x y : ℕ) (ps : List (List ℕ)) → (y ≡ x → ⊥) → All (LacksByte x) ps → LacksByte x (join_with_byte y ps)
+pub lacks_rejoined : (x y : ℕ) (ps : List (List ℕ)) → (y ≡ x → ⊥) → AllByRecursion (LacksByte x) ps → LacksByte x (join_with_byte y ps)
 lacks_rejoined x y [] n f = lacks_none x
 lacks_rejoined x y (p ∷ []) n f = f.0
 lacks_rejoined x y (p ∷ q ∷ ps) n f =
     lacks_append x p (y ∷ join_with_byte y (q ∷ ps)) f.0 (lacks_more x y (join_with_byte y (q ∷ ps)) n (lacks_rejoined x y (q ∷ ps) n f.1))
 
-pub lacks_parts : (x y : ℕ) (ps : List (List ℕ)) → LacksByte x (join_with_byte y ps) → All (LacksByte x) ps
+pub lacks_parts : (x y : ℕ) (ps : List (List ℕ)) → LacksByte x (join_with_byte y ps) → AllByRecursion (LacksByte x) ps
 lacks_parts x y [] f = tt
 lacks_parts x y (p ∷ []) f = (f, tt)
 lacks_parts x y (p ∷ q ∷ ps) f =

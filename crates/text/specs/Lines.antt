@@ -1,7 +1,7 @@
 -- The lines of a text. Assumes nothing.
 use Rattle.std.specs.Prelude.{◌≡◌, ℕ, ◌<◌, Bool, true, false, cond, List, [], ◌∷◌, ◌++◌, length}
 use Rattle.std.specs.Str.Iter.{LacksByte}
-use Rattle.std.specs.List.{flat_map, AllByRecursion as All}
+use Rattle.std.specs.List.{flat_map, AllByRecursion}
 use Rattle.text.specs.Parts.{parts, line_feed}
 
 -- a line: its bytes, and whether a line feed ends it
@@ -36,7 +36,7 @@ Ended (l ∷ k ∷ ls) = (l.ended ≡ true) × Ended (k ∷ ls)
 -- lines without a line feed inside, which one after another are the text
 pub record LinedAs (text : List ℕ) (ls : List Line) : Type 0 where
   pub whole : flat_map line_bytes ls ≡ text
-  pub clear : All (λ l. LacksByte line_feed l.text) ls
+  pub clear : AllByRecursion (λ l. LacksByte line_feed l.text) ls
   pub ended : Ended ls
 
 -- and no other lines are such

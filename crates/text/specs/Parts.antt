@@ -1,7 +1,7 @@
 -- The parts of a text between separator bytes. Assumes nothing.
 use Rattle.std.specs.Prelude.{◌≡◌, ℕ, cond, List, [], ◌∷◌, ◌==◌}
 use Rattle.std.specs.Str.Iter.{LacksByte}
-use Rattle.std.specs.List.{join_with_byte, AllByRecursion as All}
+use Rattle.std.specs.List.{join_with_byte, AllByRecursion}
 
 abbrev pub tab : ℕ
 tab = 9
@@ -22,7 +22,7 @@ parts x (b ∷ bs) = cond (b == x) ([] ∷ parts x bs) (onto b (parts x bs))
 -- one part or more, none with an x in it, which joined by x are the text
 pub record Parted (x : ℕ) (text : List ℕ) (ps : List (List ℕ)) : Type 0 where
   pub some : ps ≡ [] → ⊥
-  pub clear : All (LacksByte x) ps
+  pub clear : AllByRecursion (LacksByte x) ps
   pub whole : join_with_byte x ps ≡ text
 
 -- and no other parts are such

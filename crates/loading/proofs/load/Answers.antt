@@ -17,7 +17,7 @@ use Rattle.loading.specs.Fields.{Says}
 use Rattle.loading.specs.Telling.{told_on}
 use Rattle.loading.proofs.Finishing.{few_letters}
 use Rattle.loading.proofs.load.Goals as goal
-use Rattle.loading.proofs.load.Goals.{In-Some-next, In-ok-entry, In-default-next, After-len}
+use Rattle.loading.proofs.load.Goals.{In-Some-next, In_ok-entry, In_default-next, After-len}
 
 pub next-requires : goal.next-requires
 next-requires c = omega (arith, c.new-rows.ensures.none, ap length c.new-rows.ensures.all, few_lines c.args.sheet.now, c.if-sheet-gt-LONGEST.false)
@@ -70,7 +70,7 @@ returns-in_err-entry c =
     (later_words I.head I.done l (e.fault, e.field) t.1))
 
 -- the words of a line in the loop
-words : (c : In-ok-entry) → (first_met (word_conditions (letters (c.loop-row.invariant.head ∷ c.loop-row.invariant.done)) (line_of c.in-Some-next.row.line)) ≡ None)
+words : (c : In_ok-entry) → (first_met (word_conditions (letters (c.loop-row.invariant.head ∷ c.loop-row.invariant.done)) (line_of c.in-Some-next.row.line)) ≡ None)
     × Says (letters (c.loop-row.invariant.head ∷ c.loop-row.invariant.done)) (line_of c.in-Some-next.row.line) c.in_ok-entry.entry
 words c =
     subst (λ (m : ℕ). (first_met (word_conditions m (line_of c.in-Some-next.row.line)) ≡ None) × Says m (line_of c.in-Some-next.row.line) c.in_ok-entry.entry)
@@ -94,7 +94,7 @@ loop-row-preserved c =
     let left = lines_left c.next-in-loop-row.new.self.lines in
     let g = c.in-Some-next.ensures in
     let r = reads (goal.at.loop-row-preserved c).In-Some-next in
-    let w = words (goal.at.loop-row-preserved c).In-ok-entry in
+    let w = words (goal.at.loop-row-preserved c).In_ok-entry in
     let o = c.in_ok-enter.ensures.drawn I.head I.done I.named I.drawn w.1 in
     record {
       head = I.head;
@@ -114,14 +114,14 @@ returns-in_err-enter c =
     let l = line_of c.in-Some-next.row.line in
     let e = c.in_err-enter.field-0.0 in
     let r = reads (goal.at.returns-in_err-enter c).In-Some-next in
-    let w = words (goal.at.returns-in_err-enter c).In-ok-entry in
+    let w = words (goal.at.returns-in_err-enter c).In_ok-entry in
     let t = c.in_err-enter.ensures.drawn I.head I.done I.named I.drawn w.1 in
     rw (p.1, p.2)
     (line_refused c.args.sheet.now (I.head ∷ I.done) (lines_left c.next-in-loop-row.new.self.lines) l e r.0 (t.0 ∙ r.1)
     (later_step I.head I.done l w.0 ∙ t.1))
 
 -- after the last line: what the sheet is refused by, its lines, and how many states they name
-over : (c : In-default-next) → (refused c.args.sheet.now ≡ refused_from (c.loop-row.invariant.head ∷ c.loop-row.invariant.done) []) × (lines c.args.sheet.now ≡ c.loop-row.invariant.head ∷ c.loop-row.invariant.done)
+over : (c : In_default-next) → (refused c.args.sheet.now ≡ refused_from (c.loop-row.invariant.head ∷ c.loop-row.invariant.done) []) × (lines c.args.sheet.now ≡ c.loop-row.invariant.head ∷ c.loop-row.invariant.done)
 over c =
     let I = c.loop-row.invariant in
     let e = c.in_default-next.ensures.given in (
@@ -138,7 +138,7 @@ pub finish-requires : goal.finish-requires
 finish-requires c =
     let I = c.loop-row.invariant in
     let R = c.loop-row.names in
-    let o = over (goal.at.finish-requires c).In-default-next in
+    let o = over (goal.at.finish-requires c).In_default-next in
     record {
       head = I.head;
       rest = I.done;
@@ -151,7 +151,7 @@ finish-requires c =
 pub returns-in_default-finish : goal.returns-in_default-finish
 returns-in_default-finish c =
     let I = c.loop-row.invariant in
-    let o = over (goal.at.returns-in_default-finish c).In-default-next in
+    let o = over (goal.at.returns-in_default-finish c).In_default-next in
     let t = c.in_default-finish.ensures I.head I.done I.drawn (states_are (goal.at.returns-in_default-finish c).After-len) in
     let n : c.count.result ≡ length (I.head ∷ I.done) = omega (arith, c.count.ensures, c.in_default-next.ensures.counted, I.counted) in
     read_err c.args.sheet.now _
@@ -160,6 +160,6 @@ returns-in_default-finish c =
 pub returns : goal.returns
 returns c =
     let I = c.loop-row.invariant in
-    let o = over (goal.at.returns c).In-default-next in
+    let o = over (goal.at.returns c).In_default-next in
     let t = c.in-Some-finish.ensures I.head I.done I.drawn (states_are (goal.at.returns c).After-len) in
     read_ok c.args.sheet.now _ (o.0 ∙ ended (I.head ∷ I.done) false t.0) (t.1 ∙ ap rule_of (sym o.1))

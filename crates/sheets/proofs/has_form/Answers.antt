@@ -1,4 +1,4 @@
-use Rattle.std.proofs.Common.{◌≡◌, List, [], ◌∷◌}
+use Rattle.std.proofs.Common.{◌≡◌, [], ◌∷◌}
 use Rattle.text.specs.Left.{line_of}
 use Rattle.text.specs.Parts.{parts, tab}
 use Rattle.sheets.proofs.Forms.{formed_by_word}

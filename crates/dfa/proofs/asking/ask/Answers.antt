@@ -1,9 +1,8 @@
-use Rattle.std.proofs.Common.{◌≡◌, ℕ, ◌+◌, ◌<◌, ◌≤◌, map, length, get_or, drop, Some, None, Ok, Err, sym, refl, ap, ◌∙◌, arith}
+use Rattle.std.proofs.Common.{◌≡◌, ◌+◌, ◌<◌, map, length, get_or, drop, Some, None, Err, sym, ap, ◌∙◌, arith}
 use Rattle.std.specs.Option.{ok_or}
 use Rattle.std.proofs.lemmas.List.{get_or_default, drop_all}
 use Rattle.refusals.specs.declared.fault.Fault.TheVariants.{DamagedTable}
 use Rattle.refusals.specs.Line.{unplaced}
-use Rattle.dfa.specs.declared.rows.DfaRow.{DfaRow}
 use Rattle.dfa.specs.Rows.{blank_row}
 use Rattle.dfa.specs.Asked.{row_at, followed}
 use Rattle.dfa.proofs.Following.{bare, read_as, leads_at, sound_leads, followed_more, followed_not, asked_is}

@@ -1,4 +1,4 @@
-use Rattle.std.proofs.Common.{◌≡◌, ap, arith}
+use Rattle.std.proofs.Common.{arith}
 use Rattle.dfa.proofs.Following.{leads_more, leads_not}
 use Rattle.dfa.proofs.asking.leads_on.Goals as goal
 

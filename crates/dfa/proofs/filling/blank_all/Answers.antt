@@ -1,4 +1,4 @@
-use Rattle.std.proofs.Common.{◌≡◌, ◌<◌, ◌≢◌, length, sym, ◌∙◌, arith, get_or-set_other, get_or-set_same, ext_get_or, below_more}
+use Rattle.std.proofs.Common.{◌<◌, ◌≢◌, length, sym, ◌∙◌, arith, get_or-set_other, get_or-set_same, ext_get_or, below_more}
 use lib.ListN.{length-replicate, get_or-replicate}
 use Rattle.dfa.specs.Rows.{blank_row}
 use Rattle.dfa.proofs.filling.blank_all.Goals as goal

@@ -1,4 +1,4 @@
-use Rattle.std.proofs.Common.{◌≡◌, ℕ, ◌<◌, length, get_or}
+use Rattle.std.proofs.Common.{◌≡◌, ℕ, ◌<◌, get_or}
 use Rattle.dfa.specs.Rows.{blank_row}
 use Rattle.dfa.proofs.filling.blank_all.Given as goal
 

@@ -1,4 +1,4 @@
-use Rattle.std.proofs.Common.{◌≡◌, ℕ, ◌-◌, ◌≤◌, min, length, take, drop, sym, refl, ap, ◌∙◌, arith, length-take-le, rules}
+use Rattle.std.proofs.Common.{◌≡◌, ◌-◌, ◌≤◌, min, length, take, drop, ap, ◌∙◌, arith, length-take-le}
 use Rattle.dfa.specs.Filled.{capacity}
 use Rattle.dfa.proofs.Finishing.{outer_rows, outer_tables, outer_dfa}
 use Rattle.dfa.proofs.filling.fill.Goals as goal

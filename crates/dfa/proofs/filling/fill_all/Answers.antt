@@ -1,4 +1,4 @@
-use Rattle.std.proofs.Common.{◌≡◌, ℕ, suc, ◌+◌, ◌<◌, ◌≤◌, List, [], ◌∷◌, length, replicate, sym, refl, ap, ◌∙◌, add-one, arith, rules}
+use Rattle.std.proofs.Common.{◌≡◌, ◌+◌, ◌<◌, ◌≤◌, [], ◌∷◌, length, replicate, sym, refl, ap, ◌∙◌, add-one, arith, rules}
 use Rattle.register.specs.Keys.{laid_in}
 use Rattle.register.specs.Held.{held, places}
 use Rattle.register.specs.Tables.{blank_table}

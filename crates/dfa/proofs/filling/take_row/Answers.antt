@@ -1,4 +1,4 @@
-use Rattle.std.proofs.Common.{◌≡◌, ℕ, ◌+◌, ◌<◌, ◌≤◌, map, length, sym, refl, ap, ◌∙◌, arith}
+use Rattle.std.proofs.Common.{◌≡◌, ◌+◌, ◌<◌, ◌≤◌, map, length, sym, refl, ap, ◌∙◌, arith}
 use Rattle.register.specs.Keys.{laid_in}
 use Rattle.register.specs.Held.{held, places}
 use Rattle.std.specs.List.{range_with_len}

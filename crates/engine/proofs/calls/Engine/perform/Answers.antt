@@ -1,4 +1,4 @@
-use Rattle.std.proofs.Common.{◌≡◌, ap}
+use Rattle.std.proofs.Common.{ap}
 use Rattle.engine.specs.Calls.{Meaning, Outcome}
 use Rattle.engine.proofs.Lawfully.{law_from}
 use Rattle.engine.proofs.calls.Engine.perform.Goals as goal
