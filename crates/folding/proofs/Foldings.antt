@@ -1,11 +1,11 @@
 -- The three calls one after another, and what the listing that they leave decides. Assumes nothing.
-use Rattle.std.proofs.Common.{◌≡◌, ℕ, zero, suc, ◌<◌, ◌≤◌, min, max, Bool, true, false, cond, eqb, ltb, ◌⊎◌, List, [], ◌∷◌, ◌++◌, length, get_or, take, drop, is_some, IfOk, Some, None, Ok, Err, Option, Result, sym, refl, ap, ◌∙◌, subst, inl, inr, arith}
+use Rattle.std.proofs.Common.{◌≡◌, ℕ, zero, suc, ◌<◌, ◌≤◌, Bool, true, false, cond, eqb, List, [], ◌∷◌, ◌++◌, length, take, drop, is_some, IfOk, Some, None, Ok, Err, Option, Result, sym, refl, ap, ◌∙◌, subst, inl, inr, arith}
 use Rattle.std.specs.Option.{ok_or}
 use Rattle.std.proofs.lemmas.List.{take_at}
-use Rattle.std.proofs.lemmas.Bool.{cases_Bool, cases_lt, eq-eqb, eqb-false, leb-true, or_parts, not-false, and_parts, cond-true, cond-false, ltb-false}
+use Rattle.std.proofs.lemmas.Bool.{cases_lt, eqb-false, or_parts, not-false, and_parts}
 use Rattle.two_way.specs.declared.Verdict.{Verdict}
 use Rattle.two_way.specs.Automaton.{Automaton, Lawful}
-use Rattle.two_way.specs.Runs.{Word, Reads}
+use Rattle.two_way.specs.Runs.{Word}
 use Rattle.two_way.specs.Crossings.{reached}
 use Rattle.refusals.specs.declared.fault.Fault.TheVariants.{LettersDiffer, NoRows, TooFewPlaces, DamagedTable, ListingTooLong}
 use Rattle.refusals.specs.declared.refusal.Refusal.{Refusal}
@@ -31,7 +31,7 @@ use Rattle.spelling.specs.Spells.{Spells}
 use Rattle.spelling.specs.Judged.{Spelled}
 use Rattle.spelling.specs.Reading.{sheet_read}
 use Rattle.spelling.proofs.Spelled.{read_is_spelled, spelled_lawful}
-use Rattle.folding.specs.Folded.{Lent, Folded, listed, after_build, built, folded, row_reached, ListsRule}
+use Rattle.folding.specs.Folded.{Lent, Folded, listed, after_build, built, folded, ListsRule}
 
 -- the letters of a rule are as many as plain letters can be
 pub plain_count : (m : ℕ) → 1 ≤ m → m ≤ 16 → letter_count m ≡ m
@@ -59,13 +59,13 @@ pub fold_done : (b : List ℕ) (rule : StoredRule) (letters : PlainLetters) (e e
 fold_done b rule letters e e' x n ts ds r o read count new answer after tables dfa told bytes =
     let A = of_stored rule in
     let p = capacity x.tables x.dfa in
-    let AIs : of_stored e.rule ≡ A = ap (λ (t : Engine StoredRule PlainLetters). of_stored t.rule) new in
+    let a_is : of_stored e.rule ≡ A = ap (λ (t : Engine StoredRule PlainLetters). of_stored t.rule) new in
     let c_is : e.alphabet.count ≡ A.letters = ap (λ (t : Engine StoredRule PlainLetters). t.alphabet.count) new ∙ count in
     let rows : e'.rows ≡ n = ap (λ (t : Engine StoredRule PlainLetters). t.rows) after ∙ built_rows (of_stored e.rule) e.alphabet.count p e.rows n answer in
     let same : e'.alphabet.count ≡ A.letters = ap (λ (t : Engine StoredRule PlainLetters). t.alphabet.count) after ∙ c_is in
-    let built_ts : ts ≡ (built A x).tables = tables ∙ λ i. build_tables (AIs i) (c_is i) p x.tables in
-    let built_ds : ds ≡ (built A x).dfa = dfa ∙ λ i. build_dfa (AIs i) (c_is i) p x.dfa in
-    let taken : build_answer A A.letters p ≡ Ok n = sym (answer ∙ λ i. build_answer (AIs i) (c_is i) p) in
+    let built_ts : ts ≡ (built A x).tables = tables ∙ λ i. build_tables (a_is i) (c_is i) p x.tables in
+    let built_ds : ds ≡ (built A x).dfa = dfa ∙ λ i. build_dfa (a_is i) (c_is i) p x.dfa in
+    let taken : build_answer A A.letters p ≡ Ok n = sym (answer ∙ λ i. build_answer (a_is i) (c_is i) p) in
     let r_is : r ≡ listed_answer n A.letters (built A x).dfa x.out = told ∙ λ i. listed_answer (rows i) (same i) (built_ds i) x.out in
     let o_is : o ≡ listed_bytes n A.letters (built A x).dfa x.out = bytes ∙ λ i. listed_bytes (rows i) (same i) (built_ds i) x.out in
     let all : record { answer = r; left = record { tables = ts; dfa = ds; out = o } } ≡ listed n A.letters (built A x) =

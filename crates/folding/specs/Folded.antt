@@ -1,5 +1,5 @@
 -- A sheet folded: read, built and listed. Assumes nothing.
-use Rattle.std.specs.Prelude.{◌≡◌, ℕ, ◌<◌, List, get_or, Ok, Err, Result}
+use Rattle.std.specs.Prelude.{◌≡◌, ℕ, ◌<◌, List, Ok, Err, Result}
 use Rattle.two_way.specs.declared.Verdict.{Verdict}
 use Rattle.two_way.specs.Verdicts.{number_of}
 use Rattle.two_way.specs.Automaton.{Automaton}

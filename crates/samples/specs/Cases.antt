@@ -1,5 +1,5 @@
 -- Nine worked cases: what a build, a listing or a walk gives for small rules. Assumes nothing.
-use Rattle.std.specs.Prelude.{ℕ, List, [], ◌∷◌, ◌++◌, map, length, take, replicate, Ok, Err, codes, Result}
+use Rattle.std.specs.Prelude.{ℕ, List, [], ◌∷◌, ◌++◌, map, take, replicate, Ok, Err, codes, Result}
 use Rattle.two_way.specs.declared.Verdict.{Verdict}
 use Rattle.two_way.specs.Automaton.{Automaton}
 use Rattle.two_way.specs.Pairs.{pair}

@@ -1,4 +1,4 @@
-use Rattle.std.proofs.Common.{◌≡◌, sym, ap, ◌∙◌}
+use Rattle.std.proofs.Common.{◌≡◌, ap, ◌∙◌}
 use Rattle.alphabets.specs.Plain.{letter_count}
 use Rattle.rules.specs.Kinds.{of_stored}
 use Rattle.folding.proofs.Foldings.{plain_count, fold_done}
