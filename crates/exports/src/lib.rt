@@ -44,10 +44,10 @@ pub extern "C" fn cetskvali_fold(
     length: &mut usize,
     place: &mut Place,
 ) -> u8
-    ensures code { result ≡ code (folded (sheet_read sheet.now) (record { tables = tables.entry.now; dfa = dfa.old; out = out.old })).answer }
-    ensures left { record { tables = tables.exit.now; dfa = dfa.new; out = out.new } ≡ (folded (sheet_read sheet.now) (record { tables = tables.entry.now; dfa = dfa.old; out = out.old })).left }
-    ensures length { length.new ≡ number_after (folded (sheet_read sheet.now) (record { tables = tables.entry.now; dfa = dfa.old; out = out.old })).answer length.old }
-    ensures place { place.new ≡ place_after (folded (sheet_read sheet.now) (record { tables = tables.entry.now; dfa = dfa.old; out = out.old })).answer place.old }
+    ensures code { result ≡ code (folded (sheet_read sheet.now) (record { tables = tables.old; dfa = dfa.old; out = out.old })).answer }
+    ensures left { record { tables = tables.new; dfa = dfa.new; out = out.new } ≡ (folded (sheet_read sheet.now) (record { tables = tables.old; dfa = dfa.old; out = out.old })).left }
+    ensures length { length.new ≡ number_after (folded (sheet_read sheet.now) (record { tables = tables.old; dfa = dfa.old; out = out.old })).answer length.old }
+    ensures place { place.new ≡ place_after (folded (sheet_read sheet.now) (record { tables = tables.old; dfa = dfa.old; out = out.old })).answer place.old }
 {
     match fold_sheet(sheet, tables, dfa, out) {
         Ok(written) => {

@@ -22,7 +22,7 @@ pub fn fold_sheet(
     dfa: &mut [DfaRow],
     out: &mut [u8],
 ) -> Result<usize, Refusal>
-    ensures folded { record { answer = result; left = record { tables = tables.exit.now; dfa = dfa.new; out = out.new } } ≡ folded (sheet_read sheet.now) (record { tables = tables.entry.now; dfa = dfa.old; out = out.old }) }
+    ensures folded { record { answer = result; left = record { tables = tables.new; dfa = dfa.new; out = out.new } } ≡ folded (sheet_read sheet.now) (record { tables = tables.old; dfa = dfa.old; out = out.old }) }
     ensures law { IfOk result (λ n. ListsRule sheet.now (take n out.new)) }
 {
     fold(sheet, tables, dfa, out)
@@ -35,7 +35,7 @@ fn fold(
     dfa: &mut [DfaRow],
     out: &mut [u8],
 ) -> Result<usize, Refusal>
-    ensures { record { answer = result; left = record { tables = tables.exit.now; dfa = dfa.new; out = out.new } } ≡ folded (sheet_read sheet.now) (record { tables = tables.entry.now; dfa = dfa.old; out = out.old }) }
+    ensures { record { answer = result; left = record { tables = tables.new; dfa = dfa.new; out = out.new } } ≡ folded (sheet_read sheet.now) (record { tables = tables.old; dfa = dfa.old; out = out.old }) }
 {
     read_build_list(sheet, tables, dfa, out)
 }
@@ -47,7 +47,7 @@ fn read_build_list(
     dfa: &mut [DfaRow],
     out: &mut [u8],
 ) -> Result<usize, Refusal>
-    ensures { record { answer = result; left = record { tables = tables.exit.now; dfa = dfa.new; out = out.new } } ≡ folded (sheet_read sheet.now) (record { tables = tables.entry.now; dfa = dfa.old; out = out.old }) }
+    ensures { record { answer = result; left = record { tables = tables.new; dfa = dfa.new; out = out.new } } ≡ folded (sheet_read sheet.now) (record { tables = tables.old; dfa = dfa.old; out = out.old }) }
 {
     let rule = read_sheet(sheet)?;
     let mut engine = Engine::new(rule, PlainLetters::new(rule.letters()));

@@ -1,5 +1,5 @@
 -- What the code holds of the lines read so far. Assumes nothing.
-use Rattle.std.specs.Prelude.{◌≡◌, ℕ, ◌+◌, ◌*◌, ◌<◌, ◌≤◌, false, cond, ◌||◌, List, [], ◌∷◌, ◌++◌, map, length, get_or, Some, None, Option, ◌==◌, ◌≢◌, slice_index_or}
+use Rattle.std.specs.Prelude.{◌≡◌, ℕ, ◌+◌, ◌*◌, ◌<◌, ◌≤◌, false, cond, ◌||◌, List, [], ◌∷◌, ◌++◌, map, length, Some, None, Option, ◌==◌, ◌≢◌, slice_index_or}
 use Rattle.std.specs.Option.{unwrap_or}
 use Rattle.std.specs.List.{slice_get}
 use Rattle.std.specs.Str.{bytes_eq}
@@ -52,7 +52,7 @@ pub record Gap (x : Draft) (k q c : ℕ) : Type 0 where
   pub state : q < k
   pub goes_on : (q ≢ x.accept) × (q ≢ x.reject)
   pub column : c < x.header.letters + 2
-  pub none : get_or x.steps (q * 18 + c) None ≡ None
+  pub none : slice_index_or x.steps (q * 18 + c) None ≡ None
 
 -- the draft of lines that have k names, and that are lawful where no column lacks
 pub record Ready (x : Draft) (k : ℕ) : Type 0 where

@@ -1,3 +1,4 @@
+-- Crossing tables are equal where their bytes are: what the law of tables as keys needs. Assumes nothing.
 use Rattle.std.specs.Prelude.{◌≡◌, ℕ, List}
 use Rattle.std.proofs.Common.{ap}
 use Rattle.register.specs.declared.tables.CrossingTable.{CrossingTable}

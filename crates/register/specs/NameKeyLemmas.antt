@@ -1,3 +1,4 @@
+-- Names are equal where their lengths and bytes are: what the law of names as keys needs. Assumes nothing.
 use Rattle.std.specs.Prelude.{◌≡◌, ℕ, List}
 use Rattle.std.proofs.Common.{◌∙◌, ap}
 use Rattle.register.specs.declared.names.Name.{Name}
