@@ -27,7 +27,7 @@ fn follow<L: Alphabet>(alphabet: &L, shelf: &Shelf, marks: &[L::Mark]) -> Option
 {
     let mut row = 0;
     for mark in marks {
-        row = shelf.next(row, alphabet.letter(mark))?;
+        row = shelf.next_row(row, alphabet.letter(mark))?;
     }
     shelf.verdict_at(row)
 }

@@ -62,7 +62,7 @@ impl<'a> Shelf<'a> {
     }
 
     // The number of the row to which a letter leads from the row with this number, where that has a verdict.
-    pub(crate) fn next(&self, row: usize, letter: u8) -> Option<usize>
+    pub(crate) fn next_row(&self, row: usize, letter: u8) -> Option<usize>
         ensures { result ≡ next_row self.now.letters (length self.now.rows.now) self.now.rows.now row letter }
     {
         let row = self.rows.get(row)?;

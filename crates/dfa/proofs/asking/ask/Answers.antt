@@ -1,4 +1,4 @@
-use Rattle.std.proofs.Common.{ap, ◌∙◌}
+use Rattle.std.proofs.Common.{◌∙◌}
 use Rattle.std.specs.Option.{ok_or}
 use Rattle.dfa.proofs.Following.{asked_taken}
 use Rattle.dfa.proofs.asking.ask.Goals as goal
