@@ -41,6 +41,7 @@ pub fn walk<R: Rule, L: Alphabet>(
 }
 
 // A rule and the marks that it runs over, which its alphabet reads.
+#[derive_where(Clone, Copy)]
 struct Tape<'a, R, L: Alphabet> {
     rule: &'a R,
     alphabet: &'a L,
