@@ -12,7 +12,7 @@ use two_way::Verdict;
 pub const LONGEST: usize = 65_536;
 
 // What a walk found: the verdict, and the steps up to the one that enters accept or reject.
-#[derive(Clone, Copy, Debug)]
+#[derive(Clone, Copy, PartialEq, Eq, Debug)]
 pub struct Walked {
     pub verdict: Verdict,
     pub steps: u32,
