@@ -58,7 +58,7 @@ followed_more letter m n ds ms i j k x h e s =
     turn None z = absurd (let y : ◌≡◌ {A = ℕ} 0 1 = cc in omega arith)
 
 -- over the rows in use
-row_taken : (n i : ℕ) (ds : List DfaRow) → i < n → row_at (take n ds) i ≡ row_at ds i
+pub row_taken : (n i : ℕ) (ds : List DfaRow) → i < n → row_at (take n ds) i ≡ row_at ds i
 row_taken n i ds h = get_or-take n ds i blank_row h
 
 -- rows that are not refused are some, and no more than there are
