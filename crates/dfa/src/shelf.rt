@@ -48,7 +48,7 @@ impl<'a> Shelf<'a> {
         ensures { result ≡ verdict_in self.now.letters (length self.now.rows.now) row.now }
     {
         if self.leads_on(row) {
-            Verdict::from_number(row.verdict())
+            Verdict::try_from(row.verdict()).ok()
         } else {
             None
         }
