@@ -56,7 +56,7 @@ fn take_rows<R: Rule>(
             break;
         };
         let cells = take_row(rule, known, &table)?;
-        *row = DfaRow::new(cells, u8::from(verdict_of(rule, &table)));
+        *row = DfaRow::new(cells, verdict_of(rule, &table).into());
     }
     Some(known.len())
 }

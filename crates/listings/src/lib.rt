@@ -80,7 +80,7 @@ mod tests {
     fn refused(rows: usize, dfa: &[DfaRow], out: &mut [u8]) -> u8 {
         match write_rows(rows, 1, dfa, out) {
             Ok(_) => 0,
-            Err(refusal) => refusal.fault.number(),
+            Err(refusal) => refusal.fault.into(),
         }
     }
 

@@ -53,7 +53,7 @@ loop-at-preserved g c =
     let rows : held k' ≡ known A (at + 1) = e.grown.rows ∙ next_known A (held k) t at inv.rows here ∙ ap (known A) (sym (add-one at)) in
     let longer : length (held k) ≤ length (held k') = omega (arith, (lettered_front A t (held k) A.letters).longer, ap length e.grown.rows) in
     let is : c.new.result ≡ then_row A at =
-    c.new.ensures ∙ row_made A (held k) t at inv.rows here c.in_ok-cells.cells (held k') c.from.result e.grown.rows e.grown.cells_are (c.from.ensures ∙ ap number_of c.verdict_of.ensures) in
+    c.new.ensures ∙ row_made A (held k) t at inv.rows here c.in_ok-cells.cells (held k') c.into.result e.grown.rows e.grown.cells_are (c.into.ensures ∙ ap number_of c.verdict_of.ensures) in
     record {
       lent = e.lent ∙ inv.lent;
       long = e.long ∙ inv.long;
