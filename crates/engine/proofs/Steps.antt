@@ -1,10 +1,10 @@
 -- Columns, steps and turns of a walk.
-use Rattle.std.proofs.Common.{◌≡◌, ℕ, zero, suc, ◌+◌, ◌-◌, ◌<◌, ◌≤◌, cond, eqb, ltb, List, map, length, get_or, Ok, Err, sym, refl, ap, ◌∙◌, subst, add-one, arith, le-ltb, lt-ltb, eq-eqb, ne_eqb}
+use Rattle.std.proofs.Common.{◌≡◌, ℕ, zero, suc, ◌+◌, ◌-◌, ◌<◌, ◌≤◌, cond, eqb, ltb, List, map, length, get_or, Ok, Err, sym, ap, ◌∙◌, subst, add-one, arith, le-ltb, lt-ltb, eq-eqb, ne_eqb}
 use native.Mathlib.Decide.{dec_le}
 use Rattle.std.proofs.lemmas.List.{get_or-map, get_or_past, length-map}
 use Rattle.two_way.specs.declared.Verdict.{Verdict}
-use Rattle.two_way.specs.Automaton.{Automaton, Lawful, Way, L, R, right_end, to, way}
-use Rattle.two_way.specs.Runs.{Config, column, step, moved, begin, most}
+use Rattle.two_way.specs.Automaton.{Automaton, Lawful, L, R, right_end, to, way}
+use Rattle.two_way.specs.Runs.{Config, column, step, begin, most}
 use Rattle.two_way.proofs.Loops.{clash}
 use Rattle.two_way.proofs.Sound.{Sound, sound, to_none}
 use Rattle.refusals.specs.declared.fault.Fault.TheVariants.{LettersDiffer, TitleTooLong}
