@@ -32,12 +32,6 @@ impl Refusal {
         ensures text { IfOk result (λ t. string_bytes t ≡ refusal_line self) }
         ensures law { ToldAlone self }
     {
-        self.written(heap)
-    }
-
-    fn written(self, heap: Global) -> Result<String, AllocError>
-        ensures { IfOk result (λ t. string_bytes t ≡ refusal_line self) }
-    {
         format!(in heap; "{self}\n")
     }
 }

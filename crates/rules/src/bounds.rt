@@ -47,7 +47,7 @@ impl Bounds {
         ensures { Decides result (RowKept self.states self.letters self.accept self.reject (at steps.now) state) }
     {
         (0..self.letters + 2).all(|column| {
-            self.allow(state, column, steps[state as usize * 18 + column as usize])
+            self.allow(state, column, step_at(steps, state, column))
         })
     }
 
@@ -57,4 +57,12 @@ impl Bounds {
     {
         (0..self.states).all(|state| self.allow_row(steps, state))
     }
+}
+
+// Steps stand one state after the other, 18 of each.
+pub(crate) fn step_at(steps: &[(u8, u8); 576], state: u8, column: u8) -> (u8, u8)
+    requires { (state < 32) × (column < 18) }
+    ensures { result ≡ at steps.now state column }
+{
+    steps[state as usize * 18 + column as usize]
 }

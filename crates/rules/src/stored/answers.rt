@@ -7,7 +7,7 @@ ghost use Rattle.rules.specs.Kinds.{of_stored, Loaded};
 ghost use Rattle.std.proofs.Common.{rules, arith};
 
 use super::StoredRule;
-use crate::bounds::Bounds;
+use crate::bounds::{Bounds, step_at};
 use crate::rule::{Direction, Move, Rule};
 
 // Both states keep themselves: R at the letter and the left end, L at the right end.
@@ -100,7 +100,7 @@ impl Rule for StoredRule {
         if state >= self.states || column >= self.letters + 2 {
             return None;
         }
-        let (to, direction) = self.steps[state as usize * 18 + column as usize];
+        let (to, direction) = step_at(&self.steps, state, column);
         Some(Move {
             to,
             direction: if direction == 1 {
