@@ -12,22 +12,21 @@ use anyhow::anyhow;
 use comparing::{Comparison, Memory, Tally};
 use drawing::{Drawing, any_rule, by_distance, in_turn};
 use random::Random;
-use rules::{DistanceRule, PairRule, StoredRule};
+use rules::{DistanceRule, Numbers, PairRule, StoredRule};
 use samples::all_hold;
 
 const ROUNDS: u32 = 1500;
 
 // The drawn rule as the library's stored one.
 fn stored(drawing: &Drawing) -> anyhow::Result<StoredRule> {
-    StoredRule::from_steps(
-        drawing.states,
-        drawing.letters,
-        drawing.start,
-        drawing.accept,
-        drawing.reject,
-        &drawing.numbered(),
-    )
-    .ok_or(anyhow!("a drawn rule is not lawful"))
+    let numbers = Numbers {
+        states: drawing.states,
+        letters: drawing.letters,
+        start: drawing.start,
+        accept: drawing.accept,
+        reject: drawing.reject,
+    };
+    StoredRule::from_steps(numbers, &drawing.numbered()).ok_or(anyhow!("a drawn rule is not lawful"))
 }
 
 // A distance rule of either side, with the same numbers.
