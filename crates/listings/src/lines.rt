@@ -9,7 +9,7 @@ ghost use Rattle.listings.specs.Listing.{line, cell_of, head_fields, row_fields,
 ghost use Rattle.listings.specs.Placed.{Placed};
 
 use dfa::DfaRow;
-use text::write_long_number;
+use text::write_number;
 
 // A tab and the digits of the largest number.
 const LONGEST_FIELD: usize = 21;
@@ -91,7 +91,7 @@ fn put_field(n: u64, at: usize, room: usize, out: &mut [u8]) -> Option<usize>
     ensures { Placed room at (tab ∷ decimal n) out.old result out.new }
 {
     let mut field = [b'\t'; LONGEST_FIELD];
-    let digits = write_long_number(n, &mut field[1..LONGEST_FIELD]).unwrap();
+    let digits = write_number(n, &mut field[1..LONGEST_FIELD]).unwrap();
     put_bytes(&field[0..digits + 1], at, room, out)
 }
 
