@@ -4,7 +4,7 @@ use Rattle.std.specs.Str.{bytes_eq}
 use Rattle.text.specs.Parts.{parts, tab}
 use Rattle.text.specs.Lines.{Line}
 use Rattle.spelling.specs.Said.{field}
-use Rattle.spelling.specs.Conditions.{formed}
+use Rattle.sheets.specs.Form.{formed}
 use Rattle.loading.specs.Fields.{all_fields}
 use Rattle.loading.specs.declared.rows.RowFields.{RowFields}
 

@@ -12,7 +12,8 @@ use Rattle.register.specs.Held.{held, places}
 use Rattle.register.specs.declared.Register.{Register}
 use Rattle.register.specs.declared.names.Name.{Name}
 use Rattle.spelling.specs.Said.{field, names, letters, found}
-use Rattle.spelling.specs.Conditions.{longest, lacks, refused, refused_from}
+use Rattle.sheets.specs.Form.{longest}
+use Rattle.spelling.specs.Conditions.{lacks, refused, refused_from}
 use Rattle.spelling.specs.Reading.{step_of, rule_of}
 use Rattle.loading.specs.Fields.{Heads}
 use Rattle.loading.specs.declared.draft.Draft.{Draft}
