@@ -9,7 +9,8 @@ use Rattle.register.specs.Names.{as_name, alike_names}
 use Rattle.register.specs.declared.names.Name.{Name}
 use Rattle.register.proofs.Naming.{alike_as_names}
 use Rattle.spelling.specs.Said.{field, halts, with_name}
-use Rattle.spelling.specs.Conditions.{refusal_at, one_too_many}
+use Rattle.sheets.specs.Form.{refusal_at}
+use Rattle.spelling.specs.Conditions.{one_too_many}
 use Rattle.spelling.proofs.Order.{few_with}
 use Rattle.loading.specs.Fields.{Heads}
 use Rattle.loading.specs.Telling.{told_on}

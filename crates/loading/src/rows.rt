@@ -4,8 +4,7 @@ ghost use Rattle.text.specs.Parts.{parts, tab};
 ghost use Rattle.text.specs.Lines.{lines as lines_of};
 ghost use Rattle.text.specs.Left.{line_of, lines_left};
 ghost use Rattle.refusals.specs.declared.fault.Fault.TheVariants.{LineForm};
-ghost use Rattle.sheets.specs.Form.{formed};
-ghost use Rattle.spelling.specs.Conditions.{refusal_at};
+ghost use Rattle.sheets.specs.Form.{formed, refusal_at};
 ghost use Rattle.loading.specs.Fields.{all_fields};
 
 use refusals::{Fault, Refusal};

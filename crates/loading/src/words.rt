@@ -5,7 +5,8 @@ ghost use Rattle.text.specs.Numbers.{number as number_in};
 ghost use Rattle.refusals.specs.declared.fault.Fault.TheVariants.{NameLength};
 ghost use Rattle.register.specs.Names.{as_name};
 ghost use Rattle.spelling.specs.Words.{is_name, within, letters_of, column_of, direction_of};
-ghost use Rattle.spelling.specs.Conditions.{refusal_at, first_met, rule_conditions, word_conditions};
+ghost use Rattle.sheets.specs.Form.{refusal_at};
+ghost use Rattle.spelling.specs.Conditions.{first_met, rule_conditions, word_conditions};
 ghost use Rattle.loading.specs.Fields.{Heads, Says};
 ghost use Rattle.loading.specs.Telling.{told_on};
 

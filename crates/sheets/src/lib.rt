@@ -38,7 +38,8 @@ fn check_lines(sheet: &[u8]) -> Result<(), Refusal>
     Ok(())
 }
 
-fn misformed(line: u32) -> Refusal
+// The refusal of a line that is not of its form.
+pub fn misformed(line: u32) -> Refusal
     ensures { result ≡ misformed_at line }
 {
     Refusal {

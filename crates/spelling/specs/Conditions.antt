@@ -6,7 +6,7 @@ use Rattle.text.specs.Lines.{Line, lines}
 use Rattle.refusals.specs.declared.fault.Fault.{Fault}
 use Rattle.refusals.specs.declared.fault.Fault.TheVariants.{SheetTooLong, LineForm, NameLength, LetterOrColumn, Direction, SameHalts, HaltLine, TooManyNames, EndDirection, StepTwice, StepMissing}
 use Rattle.refusals.specs.declared.refusal.Refusal.{Refusal}
-use Rattle.sheets.specs.Form.{longest, formed}
+use Rattle.sheets.specs.Form.{longest, formed, refusal_at}
 use Rattle.spelling.specs.Words.{is_name, letters_of, column_of, direction_of}
 use Rattle.spelling.specs.Said.{field, with_name, names, letters, halts, entry_for}
 
@@ -90,9 +90,6 @@ any_lacks ls (x ∷ xs) = (not (halts ls x) && lacks_below ls x (letters ls + 2)
 -- a state other than the accept and the reject state lacks a column
 abbrev pub lacks : List Line → Bool
 lacks ls = any_lacks ls (names ls)
-
-abbrev pub refusal_at : Fault → ℕ → ℕ → Refusal
-refusal_at fault line field = record { fault = fault; line = line; field = field }
 
 abbrev pub or_else : Option (Fault × ℕ) → ℕ → Option Refusal → Option Refusal
 or_else None n s = s

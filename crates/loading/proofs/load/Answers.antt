@@ -8,7 +8,8 @@ use Rattle.refusals.specs.declared.fault.Fault.TheVariants.{StepMissing}
 use Rattle.register.specs.Names.{as_name}
 use Rattle.register.specs.Held.{places}
 use Rattle.spelling.specs.Said.{field, names, letters}
-use Rattle.spelling.specs.Conditions.{refusal_at, first_met, word_conditions, refused, refused_from}
+use Rattle.sheets.specs.Form.{refusal_at}
+use Rattle.spelling.specs.Conditions.{first_met, word_conditions, refused, refused_from}
 use Rattle.spelling.specs.Reading.{rule_of}
 use Rattle.spelling.proofs.Spelled.{lawful_lines}
 use Rattle.spelling.proofs.Wording.{column_read, column_below}
