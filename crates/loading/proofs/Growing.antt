@@ -1,11 +1,13 @@
 -- The draft of line 1, and the draft after one more entry.
-use Rattle.std.proofs.Common.{◌≡◌, ℕ, ◌+◌, ◌*◌, ◌<◌, true, false, eqb, List, [], ◌∷◌, ◌++◌, length, get_or, set, replicate, is_some, Some, None, Option, unwrap_or, sym, refl, ap, ◌∙◌, subst, inl, inr, arith}
+use Rattle.std.proofs.Common.{◌≡◌, ℕ, ◌+◌, ◌*◌, ◌<◌, true, false, eqb, List, [], ◌∷◌, ◌++◌, map, length, get_or, set, replicate, is_some, Some, None, Option, unwrap_or, sym, refl, ap, ◌∙◌, subst, inl, inr, arith}
 use Rattle.std.specs.List.{slice_get}
 use Rattle.std.specs.Str.{bytes_eq}
 use Rattle.std.proofs.lemmas.Slice.Eq.{bytes_eq-Decides}
 use Rattle.std.proofs.lemmas.List.{length-set, get_or-set_same, get_or-set_other, length-replicate, get_or-replicate}
 use Rattle.std.proofs.lemmas.Bool.{cases_Bool, cases_eq, and_parts, and_from, eqb-true, eq-eqb}
 use Rattle.text.specs.Lines.{Line}
+use Rattle.register.specs.Names.{as_name}
+use Rattle.register.specs.Held.{held}
 use Rattle.spelling.specs.Words.{column_of}
 use Rattle.spelling.specs.Said.{field, with_name, names, letters, is_for, found}
 use Rattle.spelling.specs.Conditions.{entry_direction}
@@ -16,6 +18,7 @@ use Rattle.spelling.proofs.LoadEntries.{found_skip, found_last, step_kept, new_n
 use Rattle.loading.specs.Fields.{Heads}
 use Rattle.loading.specs.Drawn.{given, given_for, Drawn, DrawnBy}
 use Rattle.loading.specs.declared.draft.Draft.{Draft}
+use Rattle.loading.specs.declared.states.States.{States}
 
 -- one more name gives the same steps
 module _ (ns : List (List ℕ)) (f : List ℕ) (m : ℕ) (es : List Line) (K : Known ns es) where
@@ -100,9 +103,11 @@ module _ (h : Line) (es : List Line) (l : Line) (x : Draft) (ns : List (List ℕ
           ∙ sym (given_other (with_two ns l) (letters (h ∷ [])) es l A s c d here col q b (λ e f. ne (omega arith)))
     ]
 
-    more : DrawnBy (with_two ns l) h (es ++ l ∷ []) (record { header = x.header; start = x.start; accept = x.accept; reject = x.reject; steps = set x.steps (s * 18 + c) (Some (p, d)) })
-    more = record {
+    more : (S : States) (n : ℕ) → held S.names ≡ map as_name (with_two ns l)
+        → DrawnBy (with_two ns l) h (es ++ l ∷ []) (record { header = x.header; states = S; start = x.start; accept = x.accept; reject = x.reject; steps = set x.steps (s * 18 + c) (Some (p, d)); lines = n })
+    more S n N = record {
       heads = D.heads;
+      named = N;
       start = kept (field 3 h) x.start D.start;
       accept = kept (field 4 h) x.accept D.accept;
       reject = kept (field 5 h) x.reject D.reject;
@@ -118,28 +123,30 @@ module _ (h : Line) (es : List Line) (l : Line) (x : Draft) (D : Drawn h es x) w
   pub found_cell : (s c : ℕ) → place (with_name (names (h ∷ es)) (field 2 l)) (field 2 l) ≡ Some s → s < 32 → c < 18 → is_some (get_or x.steps (s * 18 + c) None) ≡ is_some (found (letters (h ∷ es)) (field 2 l) c es)
   found_cell = found_by h es l x (names (h ∷ es)) apart (known_names h es) D (field 2 l)
 
-  pub drawn_more : (s p c d : ℕ) → place (with_name (names (h ∷ es)) (field 2 l)) (field 2 l) ≡ Some s → place (with_two (names (h ∷ es)) l) (field 4 l) ≡ Some p → unwrap_or (column_of (letters (h ∷ es)) (field 3 l)) 0 ≡ c → entry_direction l ≡ d
+  pub drawn_more : (S : States) (s p c d n : ℕ) → held S.names ≡ map as_name (with_two (names (h ∷ es)) l)
+      → place (with_name (names (h ∷ es)) (field 2 l)) (field 2 l) ≡ Some s → place (with_two (names (h ∷ es)) l) (field 4 l) ≡ Some p → unwrap_or (column_of (letters (h ∷ es)) (field 3 l)) 0 ≡ c → entry_direction l ≡ d
       → s < 32 → c < 18 → found (letters (h ∷ es)) (field 2 l) c es ≡ None
-      → Drawn h (es ++ l ∷ []) (record { header = x.header; start = x.start; accept = x.accept; reject = x.reject; steps = set x.steps (s * 18 + c) (Some (p, d)) })
-  drawn_more s p c d from to col way low cols free =
-      subst (λ (ks : List (List ℕ)). DrawnBy ks h (es ++ l ∷ []) (record { header = x.header; start = x.start; accept = x.accept; reject = x.reject; steps = set x.steps (s * 18 + c) (Some (p, d)) })) (sym (names_more h es l))
-      (more h es l x (names (h ∷ es)) apart (known_names h es) D s p c d from to col way low cols free)
+      → Drawn h (es ++ l ∷ []) (record { header = x.header; states = S; start = x.start; accept = x.accept; reject = x.reject; steps = set x.steps (s * 18 + c) (Some (p, d)); lines = n })
+  drawn_more S s p c d n N from to col way low cols free =
+      subst (λ (ks : List (List ℕ)). DrawnBy ks h (es ++ l ∷ []) (record { header = x.header; states = S; start = x.start; accept = x.accept; reject = x.reject; steps = set x.steps (s * 18 + c) (Some (p, d)); lines = n })) (sym (names_more h es l))
+      (more h es l x (names (h ∷ es)) apart (known_names h es) D s p c d from to col way low cols free S n N)
 
 none_given : (ns : List (List ℕ)) (m c : ℕ) (o : Option (List ℕ)) → given_for ns m [] c o ≡ None
 none_given ns m c None = refl
 none_given ns m c (Some x) = refl
 
 -- the draft of line 1
-pub drawn_first : (h : Line) (x : Draft) → Heads h x.header
+pub drawn_first : (h : Line) (x : Draft) → Heads h x.header → held x.states.names ≡ map as_name (names (h ∷ []))
     → place (with_name [] (field 3 h)) (field 3 h) ≡ Some x.start
     → place (with_name (with_name [] (field 3 h)) (field 4 h)) (field 4 h) ≡ Some x.accept
     → place (names (h ∷ [])) (field 5 h) ≡ Some x.reject
     → x.steps ≡ replicate 576 None → Drawn h [] x
-drawn_first h x H s t r e =
+drawn_first h x H N s t r e =
     let first = with_name [] (field 3 h) in
     let second = with_name first (field 4 h) in
     record {
       heads = H;
+      named = N;
       start = with_kept second (field 5 h) (field 3 h) x.start (with_kept first (field 4 h) (field 3 h) x.start s);
       accept = with_kept second (field 5 h) (field 4 h) x.accept t;
       reject = r;

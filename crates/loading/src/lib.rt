@@ -9,17 +9,19 @@ ghost use Rattle.loading.specs.Telling.{told};
 
 mod draft;
 mod rows;
+mod states;
 mod words;
 
-use draft::{enter, finish, open};
+use draft::Draft;
 use refusals::{Fault, Refusal};
-use register::{Blank, Name, Register};
-use rows::Rows;
+use register::{Blank, Name};
+use rows::Row;
 use rules::StoredRule;
-use words::{read_entry, read_header};
-
-// The most bytes that a sheet has.
-pub const LONGEST: usize = 32_768;
+pub use sheets::LONGEST;
+use sheets::misformed;
+use states::States;
+use text::Lines;
+use words::{Entry, Header};
 
 // The rule that a sheet spells, or the first condition by which it is refused.
 pub fn read_sheet(sheet: &[u8]) -> Result<StoredRule, Refusal>
@@ -44,30 +46,17 @@ fn load(sheet: &[u8]) -> Result<StoredRule, Refusal>
     if sheet.len() > LONGEST {
         return Err(Refusal::unplaced(Fault::SheetTooLong));
     }
-    let mut rows = Rows::new(sheet);
-    let Some(first) = rows.next() else {
-        return Err(Refusal {
-            fault: Fault::LineForm,
-            line: 1,
-            field: 0,
-        });
-    };
-    let header = read_header(first)?;
+    let mut lines = Lines::new(sheet);
+    let line = lines.next().ok_or(misformed(1))?;
+    let header = Header::read(Row { number: 1, line })?;
     let mut places = [Name::blank(); 32];
-    let mut names = Register::new(&mut places);
-    let mut draft = open(&mut names, header);
-    while let Some(row) = rows.next() {
-        let entry = read_entry(row, draft.header.letters)?;
-        enter(&mut names, &mut draft, row, entry)?;
+    let mut draft = Draft::new(header, States::new(&mut places));
+    for (number, line) in (2..).zip(lines) {
+        let row = Row { number, line };
+        let entry = Entry::read(row, draft.header.letters)?;
+        draft.enter(row, entry)?;
     }
-    let Some(rule) = finish(&draft, names.len() as u8) else {
-        return Err(Refusal {
-            fault: Fault::StepMissing,
-            line: rows.count() + 1,
-            field: 0,
-        });
-    };
-    Ok(rule)
+    draft.finish()
 }
 
 #[cfg(test)]
