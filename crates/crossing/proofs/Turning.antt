@@ -1,5 +1,5 @@
 -- One turn of a loop over states, and a table written state by state.
-use Rattle.std.proofs.Common.{◌≡◌, ℕ, suc, ◌+◌, ◌-◌, ◌<◌, ◌≤◌, cond, eqb, List, length, get_or, set, replicate, Some, None, Option, sym, refl, ap, ◌∙◌, arith, length-set, get_or-set_other, get_or-set_same, ext_get_or, le-ltb, lt-ltb, eq-eqb, ne_eqb}
+use Rattle.std.proofs.Common.{◌≡◌, ℕ, suc, ◌+◌, ◌-◌, ◌<◌, ◌≤◌, List, length, get_or, set, replicate, Some, None, Option, unwrap_or, sym, refl, ap, ◌∙◌, arith, length-set, get_or-set_other, get_or-set_same, ext_get_or, le-ltb, lt-ltb, eq-eqb, ne_eqb}
 use native.Mathlib.Decide.{ℕ_discrete, dec_lt}
 use lib.ListN.{get_or-replicate}
 use Rattle.std.proofs.lemmas.List.FromFn.{get_or-map-range_with_len}
@@ -7,6 +7,9 @@ use Rattle.two_way.specs.declared.Verdict.{Verdict}
 use Rattle.two_way.specs.Automaton.{Automaton, right_end, L, R, to, way}
 use Rattle.two_way.specs.Tables.{Table, Turn, on, stop, arriving, crossing, cross, ending, verdict}
 use Rattle.two_way.specs.Rows.{byte_of, of_row, answer, row_of}
+use Rattle.rules.specs.declared.rule.Direction.{Direction}
+use Rattle.rules.specs.declared.rule.Direction.TheVariants.{Left, Right}
+use Rattle.rules.specs.Steps.{way_of}
 use Rattle.two_way.proofs.Loops.{run, or_else}
 use Rattle.two_way.proofs.Crossing.{cross_run}
 use Rattle.two_way.proofs.Endings.{verdict_run}
@@ -31,41 +34,29 @@ module _ {Y : Type 0} (f : ℕ → Turn ℕ Y) (K k i s from : ℕ) (same : K �
       let z : suc k ≡ K + 1 = omega arith in
       ap (λ n. run f n from) z ∙ (so_far ∙ ap (λ n. run f n s) e)
 
--- what a row answers at a state, by its byte
-never_byte : (r : List ℕ) (q b : ℕ) → b ≡ get_or r q 255 → b ≡ 255 → (of_row r).at q ≡ None
-never_byte r q b e z = let y = eq-eqb (get_or r q 255) 255 (sym e ∙ z) in cc
-
-some_byte : (r : List ℕ) (q b : ℕ) → b ≡ get_or r q 255 → (b ≡ 255 → ⊥) → (of_row r).at q ≡ Some b
-some_byte r q b e n = let y = ne_eqb (get_or r q 255) 255 (λ z. n (e ∙ z)) in cc
-
--- a turn on a letter: p and d are the step, b the byte of the row at p
-module _ (A : Automaton) (r : List ℕ) (a s p d : ℕ) (goes_to : p ≡ to A s a) (goes_way : way A s a ≡ cond (eqb d 1) R L) where
+-- a turn on a letter, by the step to p and what the row answers there
+module _ (A : Automaton) (r : List ℕ) (a s p : ℕ) (d : Direction) (goes_to : p ≡ to A s a) (goes_way : way A s a ≡ way_of d) where
   abbrev turns : ℕ → Turn ℕ (Option ℕ)
   turns = crossing A (of_row r).at a
 
-  leftward : (d ≡ 1 → ⊥) → way A s a ≡ L
-  leftward n = let z = ne_eqb d 1 n in cc
+  pub leaves : d ≡ Right → (n : ℕ) → run turns (suc n) s ≡ Some (Some p)
+  leaves e n = let w : way A s a ≡ R = cc in let t : turns s ≡ stop (Some p) = cc in cc
 
-  pub leaves : d ≡ 1 → (n : ℕ) → run turns (suc n) s ≡ Some (Some p)
-  leaves e n = let z = eq-eqb d 1 e in let w : way A s a ≡ R = cc in let t : turns s ≡ stop (Some p) = cc in cc
-
-  pub stays : (b : ℕ) → b ≡ get_or r p 255 → (d ≡ 1 → ⊥) → b ≡ 255 → (n : ℕ) → run turns (suc n) s ≡ Some None
-  stays b e ne z n =
-      let w = leftward ne in
-      let o = never_byte r p b e z in
+  pub stays : d ≡ Left → (of_row r).at p ≡ None → (n : ℕ) → run turns (suc n) s ≡ Some None
+  stays e o n =
+      let w : way A s a ≡ L = cc in
       let q : (of_row r).at (to A s a) ≡ None = ap (λ x. (of_row r).at x) (sym goes_to) ∙ o in
       let t : turns s ≡ stop None = cc in cc
 
-  pub comes_back : (b : ℕ) → b ≡ get_or r p 255 → (d ≡ 1 → ⊥) → (b ≡ 255 → ⊥) → (n : ℕ) → run turns (suc n) s ≡ run turns n b
-  comes_back b e ne z n =
-      let w = leftward ne in
-      let o = some_byte r p b e z in
+  pub comes_back : (b : ℕ) → d ≡ Left → (of_row r).at p ≡ Some b → (n : ℕ) → run turns (suc n) s ≡ run turns n b
+  comes_back b e o n =
+      let w : way A s a ≡ L = cc in
       let q : (of_row r).at (to A s a) ≡ Some b = ap (λ x. (of_row r).at x) (sym goes_to) ∙ o in
       let t : turns s ≡ on b = cc in cc
 
 -- the answer of all turns on a letter
-pub crossed_by : (A : Automaton) (r : List ℕ) (a q : ℕ) (o : Option (Option ℕ)) → run (crossing A (of_row r).at a) (suc A.states) q ≡ o → byte_of (or_else None o) ≡ byte_of (cross A (of_row r).at a q)
-crossed_by A r a q o e = ap byte_of (sym (cross_run A (of_row r).at a q ∙ ap (or_else None) e))
+pub crossed_by : (A : Automaton) (r : List ℕ) (a q : ℕ) (o : Option (Option ℕ)) → run (crossing A (of_row r).at a) (suc A.states) q ≡ o → or_else None o ≡ cross A (of_row r).at a q
+crossed_by A r a q o e = sym (cross_run A (of_row r).at a q ∙ ap (or_else None) e)
 
 -- a turn at the right end, in the state s
 module _ (A : Automaton) (r : List ℕ) (s : ℕ) where
@@ -81,26 +72,30 @@ module _ (A : Automaton) (r : List ℕ) (s : ℕ) where
       let z = eq-eqb s A.reject e in
       let t : lasts s ≡ stop Verdict.Rejects = cc in cc
 
-  -- neither accept nor reject: the step at the right end leads to p, and b is the byte of the row there
-  module _ (p b : ℕ) (goes_to : p ≡ to A s (right_end A)) (is : b ≡ get_or r p 255) (na : s ≡ A.accept → ⊥) (nr : s ≡ A.reject → ⊥) where
+  -- neither accept nor reject: the step at the right end leads to p
+  module _ (p : ℕ) (goes_to : p ≡ to A s (right_end A)) (na : s ≡ A.accept → ⊥) (nr : s ≡ A.reject → ⊥) where
     into : lasts s ≡ arriving (stop Verdict.Loops) ((of_row r).at p) on
     into =
         let y = ne_eqb s A.accept na in
         let z = ne_eqb s A.reject nr in
         let q = ap (λ x. (of_row r).at x) goes_to in cc
 
-    pub lost : b ≡ 255 → (n : ℕ) → run lasts (suc n) s ≡ Some Verdict.Loops
-    lost z n = let i = into in let o = never_byte r p b is z in let t : lasts s ≡ stop Verdict.Loops = cc in cc
+    pub lost : (of_row r).at p ≡ None → (n : ℕ) → run lasts (suc n) s ≡ Some Verdict.Loops
+    lost o n = let i = into in let t : lasts s ≡ stop Verdict.Loops = cc in cc
 
-    pub again : (b ≡ 255 → ⊥) → (n : ℕ) → run lasts (suc n) s ≡ run lasts n b
-    again z n = let i = into in let o = some_byte r p b is z in let t : lasts s ≡ on b = cc in cc
+    pub again : (b : ℕ) → (of_row r).at p ≡ Some b → (n : ℕ) → run lasts (suc n) s ≡ run lasts n b
+    again b o n = let i = into in let t : lasts s ≡ on b = cc in cc
 
--- the verdict, by the byte of the first arrival and the turns from there
-pub no_arrival : (A : Automaton) (r : List ℕ) (b : ℕ) → b ≡ get_or r 32 255 → b ≡ 255 → Verdict.Loops ≡ verdict A (of_row r)
-no_arrival A r b e z = let o = never_byte r 32 b e z in let v = verdict_run A (of_row r) in cc
+-- the verdict, by the answer at the first arrival and the turns from there
+pub no_arrival : (A : Automaton) (r : List ℕ) → (of_row r).first ≡ None → Verdict.Loops ≡ verdict A (of_row r)
+no_arrival A r o = let v = verdict_run A (of_row r) in cc
 
-pub judged : (A : Automaton) (r : List ℕ) (b : ℕ) → b ≡ get_or r 32 255 → (b ≡ 255 → ⊥) → (o : Option Verdict) → run (ending A (of_row r).at) (suc A.states) b ≡ o → or_else Verdict.Loops o ≡ verdict A (of_row r)
-judged A r b e n o h = let f = some_byte r 32 b e n in let v = verdict_run A (of_row r) in cc
+pub judged : (A : Automaton) (r : List ℕ) (b : ℕ) → (of_row r).first ≡ Some b → (o : Option Verdict) → run (ending A (of_row r).at) (suc A.states) b ≡ o → or_else Verdict.Loops o ≡ verdict A (of_row r)
+judged A r b f o h = let v = verdict_run A (of_row r) in cc
+
+pub or_never : (o : Option ℕ) → unwrap_or o 255 ≡ byte_of o
+or_never (Some p) = refl
+or_never None = refl
 
 -- the row of a table, written state by state
 pub made : (A : Automaton) (T : Table) (k v : ℕ) (xs : List ℕ) → k ≡ A.states → k ≤ 32 → length xs ≡ 33

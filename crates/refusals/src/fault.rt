@@ -1,10 +1,7 @@
 // The conditions by which a call is refused.
-ghost use Rattle.std.specs.Prelude.{◌≡◌, ◌↔◌, nat_eq, IsTrue};
-ghost use Rattle.std.specs.Ordering.{on};
+ghost use Rattle.std.specs.Prelude.{◌≡◌};
 ghost use Rattle.refusals.specs.Numbers.{number_of, layer_of, layer_number};
 ghost use Rattle.refusals.specs.declared.fault.Fault.{Fault};
-ghost use Rattle.std.specs.Cmp.Rules.{comparing};
-ghost use Rattle.std.proofs.Common.{rules};
 
 // Where in the work a condition is found.
 #[derive(Clone, Copy, PartialEq, Eq, Debug)]
@@ -15,16 +12,17 @@ pub enum Layer {
     Engine = 4,
 }
 
-impl Layer {
-    pub fn number(self) -> u8
-        ensures { result ≡ layer_number self }
-    {
-        self as u8
+// The layer's number.
+impl From<Layer> for u8 {
+    ghost from_gives = { λ layer number. number ≡ layer_number layer };
+
+    fn from(layer: Layer) -> u8 {
+        layer as u8
     }
 }
 
 // One case for each condition.
-#[derive(Clone, Copy, Debug)]
+#[derive(Clone, Copy, Debug, PartialEq, Eq)]
 pub enum Fault {
     // The sheet has more than 32,768 bytes.
     SheetTooLong = 1,
@@ -66,14 +64,19 @@ pub enum Fault {
     ListingTooLong = 19,
 }
 
-impl Fault {
-    pub fn number(self) -> u8
-        ensures value { result ≡ number_of self }
-        ensures alone { (other : Fault) → number_of other ≡ result → other ≡ self }
-    {
-        self as u8
-    }
+// The condition's number, which no other has.
+impl From<Fault> for u8 {
+    ghost from_gives = { λ fault number. number ≡ number_of fault };
 
+    fn from(fault: Fault) -> u8
+        ensures value { result ≡ number_of fault }
+        ensures alone { (other : Fault) → number_of other ≡ result → other ≡ fault }
+    {
+        fault as u8
+    }
+}
+
+impl Fault {
     pub fn layer(self) -> Layer
         ensures { result ≡ layer_of self }
     {
@@ -84,19 +87,5 @@ impl Fault {
             Fault::EndDirection | Fault::StepTwice | Fault::StepMissing => Layer::Rule,
             _ => Layer::Engine,
         }
-    }
-}
-
-// Two faults are the same exactly where their numbers are.
-impl PartialEq for Fault {
-    ghost eq = { on number_of nat_eq };
-
-    ghost laws = { Prim.search (comparing, rules) };
-
-    fn eq(&self, other: &Fault) -> bool
-        ensures value { result ≡ on number_of nat_eq self.now other.now }
-        ensures same { IsTrue result ↔ (self.now ≡ other.now) }
-    {
-        self.number() == other.number()
     }
 }

@@ -21,7 +21,7 @@ mod tests {
             field: 3,
         };
         assert!(rt; refusal.line(rt.alloc())?.as_str() == "refused\t4\t12\t3\t2\n");
-        assert_eq!(rt; Fault::ListingTooLong.number(), 19);
+        assert_eq!(rt; u8::from(Fault::ListingTooLong), 19);
         assert_eq!(rt; Fault::ListingTooLong.layer(), Layer::Engine);
         Ok(())
     }

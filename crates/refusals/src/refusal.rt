@@ -46,10 +46,10 @@ impl fmt::Display for Refusal {
     ghost output = { λ x. Some (told_as x) };
 
     fn fmt<W: fmt::Write>(&self, f: &mut fmt::Formatter<W>) -> fmt::Result {
-        let number = self.fault.number();
+        let number = u8::from(self.fault);
         let line = self.line;
         let field = self.field;
-        let layer = self.fault.layer().number();
+        let layer = u8::from(self.fault.layer());
         write!(f, "refused\t{number}\t{line}\t{field}\t{layer}")
     }
 }

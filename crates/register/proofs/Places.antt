@@ -1,6 +1,7 @@
 -- The place of a key. Assumes nothing.
-use Rattle.std.proofs.Common.{◌≡◌, ℕ, zero, suc, ◌-◌, ◌<◌, ◌≤◌, Bool, true, false, List, [], ◌∷◌, length, get_or, take, Some, None, Decides, Option, refl, ap, ◌∙◌, inl, inr, suc-le-suc, le_of_suc-le-suc, not-suc-le-zero, zero-lt-suc, arith, length-take-le, get_or-take}
-use Rattle.std.proofs.lemmas.List.{get_or_read}
+use Rattle.std.proofs.Common.{◌≡◌, ℕ, zero, suc, ◌<◌, Bool, true, false, List, [], ◌∷◌, length, get_or, Some, None, Decides, Option, sym, refl, ap, ◌∙◌, inl, inr, suc-le-suc, le_of_suc-le-suc, not-suc-le-zero, zero-lt-suc, arith}
+use Rattle.std.specs.Option.{MatchOption}
+use Rattle.std.specs.List.{AllWithin, HoldsAt}
 use Rattle.std.proofs.lemmas.Bool.{cases_order, cases_Bool, both_ways}
 use Rattle.register.specs.Keys.{place_of, next_of, At, Absent, Differ, Tells}
 
@@ -16,25 +17,12 @@ place_none alike [] k b = refl
 place_none alike (x ∷ xs) k b =
     rw (b 0 (zero-lt-suc (length xs))) (ap next_of (place_none alike xs k (λ j l. b (suc j) (suc-le-suc l))))
 
--- the same among the first n of some places
-pub first_some : {K : Type 0} (alike : K → K → Bool) (xs : List K) (n : ℕ) (k : K) (i : ℕ) → n ≤ length xs → ((j : ℕ) → j < i → alike (get_or xs j k) k ≡ false) → i < n → alike (get_or xs i k) k ≡ true → place_of alike (take n xs) k ≡ Some i
-first_some alike xs n k i le b h e =
-    let long : length (take n xs) ≡ n = length-take-le n xs le in
-    place_some alike (take n xs) k i
-    (λ j l. let lt : j < n = omega arith in rw get_or-take (b j l))
-    (omega arith)
-    (rw get_or-take e)
-
-pub first_none : {K : Type 0} (alike : K → K → Bool) (xs : List K) (n : ℕ) (k : K) → n ≤ length xs → ((j : ℕ) → j < n → alike (get_or xs j k) k ≡ false) → place_of alike (take n xs) k ≡ None
-first_none alike xs n k le b =
-    let long : length (take n xs) ≡ n = length-take-le n xs le in
-    place_none alike (take n xs) k (λ j l. let lt : j < n = omega arith in rw get_or-take (b j lt))
-
--- what the loop over `xs[0..n]` reads at i
-pub front_read : {K : Type 0} (xs : List K) (n : ℕ) (i : ℕ) (x k : K) → n ≤ length xs → i < n → x ≡ get_or (take (n - 0) xs) i x → x ≡ get_or xs i k
-front_read xs n i x k le h e =
-    let lt : i < n - 0 = omega arith in
-    get_or_read xs i x (omega arith) (e ∙ get_or-take (n - 0) xs i x lt) k
+-- what `position` finds is the place
+pub first_place : {K : Type 0} (alike : K → K → Bool) (xs : List K) (k : K) (r : Option ℕ)
+    → MatchOption r (AllWithin (λ x. alike x k ≡ false) xs 0 (length xs)) (λ i. (i < length xs) × HoldsAt (λ x. alike x k ≡ true) xs i × AllWithin (λ x. alike x k ≡ false) xs 0 i)
+    → r ≡ place_of alike xs k
+first_place alike xs k None h = sym (place_none alike xs k (λ j l. h j k (omega arith) l))
+first_place alike xs k (Some i) (l, t, f) = sym (place_some alike xs k i (λ j l. f j k (omega arith) l) l (t k))
 
 -- a sameness that decides equality of contents
 abbrev pub Fair : {K : Type 0} → (K → K → Bool) → Type 0

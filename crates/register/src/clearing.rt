@@ -13,8 +13,9 @@ impl<'a, K: Blank> Register<'a, K> {
         ensures lent { self.new.keys.ghost_name ≡ self.old.keys.ghost_name }
     {
         self.count = 0;
-        for i in 0..self.keys.len() {
-            self.keys[i] = K::blank();
+        // Not `fill`, which asks for a `clone` that cannot fail: a kind of key need not show that.
+        for key in self.keys.iter_mut() {
+            *key = K::blank();
         }
     }
 }

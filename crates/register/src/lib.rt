@@ -56,8 +56,9 @@ mod tests {
         let mut answers = [NEVER; 33];
         answers[32] = 7;
         let table = CrossingTable::new(answers);
-        assert_eq!(rt; table.answer(32), 7);
-        assert_eq!(rt; table.answer(33), NEVER);
-        assert!(rt; !table.same(&CrossingTable::blank()));
+        assert_eq!(rt; table.answer(32), Some(7));
+        assert_eq!(rt; table.answer(31), None);
+        assert_eq!(rt; table.answer(33), None);
+        assert!(rt; table != CrossingTable::blank());
     }
 }

@@ -8,15 +8,15 @@ ghost use Rattle.std.proofs.lemmas.Slice.Eq.{bytes_eq-Decides};
 ghost use Rattle.register.specs.declared.names.Name.{Name};
 ghost use Rattle.register.specs.NameKeyLemmas.{both};
 
-use crate::keys::{Blank, Key, same_bytes};
+use crate::keys::{Blank, Key};
 
 const LONGEST: usize = 16;
 
 // A name of 1 to 16 bytes. All bytes after the last are 0, so that equal names have equal contents.
-#[derive(Clone, Copy)]
+#[derive(Clone, Copy, PartialEq, Eq)]
 pub struct Name {
-    bytes: [u8; LONGEST],
     len: u8,
+    bytes: [u8; LONGEST],
 }
 
 impl Name {
@@ -60,17 +60,11 @@ fn filled(text: &[u8]) -> Name
 }
 
 impl Key for Name {
-    ghost alike = { alike_names };
-
     ghost decides = { λ x y. (
       (λ t. let p = and_parts (x.len == y.len) (bytes_eq x.bytes y.bytes) t in
           both x y (eqb-true x.len y.len p.0) ((bytes_eq-Decides x.bytes y.bytes).0 p.1)),
       (λ e. and_from (x.len == y.len) (bytes_eq x.bytes y.bytes) (eq-eqb x.len y.len (ap (λ (n : Name). n.len) e)) ((bytes_eq-Decides x.bytes y.bytes).1 (ap (λ (n : Name). n.bytes) e))),
     ) };
-
-    fn same(&self, other: &Name) -> bool {
-        self.len == other.len && same_bytes(&self.bytes, &other.bytes)
-    }
 }
 
 // No bytes: no state has this name.

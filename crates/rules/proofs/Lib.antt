@@ -1,3 +1,4 @@
+pub mod Ranging
 pub mod Laws
 pub mod Blank
 pub mod Counting

@@ -1,6 +1,29 @@
--- An automaton from its numbers and a total function of steps, and the test that its steps keep the laws.
-use Rattle.std.specs.Prelude.{◌≡◌, ℕ, ◌+◌, ◌*◌, ◌<◌, ◌≤◌, Bool, true, cond, ◌&&◌, ◌||◌, List, Some, None, ◌==◌, ◌≢◌, nat_lt, slice_index_or}
-use Rattle.two_way.specs.Automaton.{Automaton}
+-- Steps as an automaton has them; an automaton from its numbers and a total function of steps, and the test that its steps keep the laws.
+use Rattle.std.specs.Prelude.{◌≡◌, ℕ, ◌+◌, ◌*◌, ◌<◌, ◌≤◌, Bool, true, cond, ◌&&◌, ◌||◌, List, Some, None, Option, ◌==◌, ◌≢◌, nat_lt, slice_index_or}
+use Rattle.two_way.specs.Automaton.{Automaton, Way, L, R}
+use Rattle.rules.specs.declared.rule.Direction.{Direction}
+use Rattle.rules.specs.declared.rule.Direction.TheVariants.{Left, Right}
+use Rattle.rules.specs.declared.rule.Move.{Move}
+
+abbrev pub direction_number : Direction → ℕ
+direction_number Left = 0
+direction_number Right = 1
+
+abbrev pub way_of : Direction → Way
+way_of Left = L
+way_of Right = R
+
+-- the next state, and the direction's number
+abbrev pub pair_of : Move → ℕ × ℕ
+pair_of s = (s.to, direction_number s.direction)
+
+-- what is done where there is no step
+abbrev pub stay : ℕ → Move
+stay q = record { to = q; direction = Left }
+
+abbrev pub told : Option Move → Option (ℕ × ℕ)
+told None = None
+told (Some s) = Some (pair_of s)
 
 -- k states, m letters, start s, accept t, reject r
 abbrev pub automaton : ℕ → ℕ → ℕ → ℕ → ℕ → (ℕ → ℕ → ℕ × ℕ) → Automaton

@@ -1,6 +1,7 @@
 // The test that steps keep the laws.
-ghost use Rattle.std.specs.Prelude.{◌≡◌, ◌<◌, ◌≤◌, Decides};
-ghost use Rattle.rules.specs.Steps.{allowed, at, RowKept, Kept};
+ghost use Rattle.std.specs.Prelude.{◌≡◌, ◌<◌, ◌≤◌, Decides, MatchBool};
+ghost use Rattle.two_way.specs.Automaton.{Lawful};
+ghost use Rattle.rules.specs.Steps.{allowed, at, stored, Sizes, RowKept, Kept};
 
 use crate::rule::onward;
 
@@ -14,11 +15,24 @@ pub(crate) struct Bounds {
 }
 
 impl Bounds {
+    // Whether the rule with these numbers, this start and these steps keeps the laws.
+    pub(crate) fn keep_laws(self, start: u8, steps: &[(u8, u8); 576]) -> bool
+        ensures { MatchBool result (Sizes self.states self.letters start self.accept self.reject × Kept self.states self.letters self.accept self.reject (at steps.now) × Lawful (stored self.states self.letters start self.accept self.reject steps.now)) (Lawful (stored self.states self.letters start self.accept self.reject steps.now) → ⊥) }
+    {
+        if self.states < 2 || self.states > 32 || self.letters < 1 || self.letters > 16 {
+            return false;
+        }
+        if start >= self.states || self.accept >= self.states || self.reject >= self.states {
+            return false;
+        }
+        self.accept != self.reject && self.allow_all(steps)
+    }
+
     fn allow(self, state: u8, column: u8, step: (u8, u8)) -> bool
         ensures { result ≡ allowed self.states self.letters self.accept self.reject state column step }
     {
         let (to, direction) = step;
-        let onward = onward(self.letters, column);
+        let onward = u8::from(onward(self.letters, column));
         if state == self.accept || state == self.reject {
             to == state && direction == onward
         } else if column < self.letters {
@@ -32,23 +46,15 @@ impl Bounds {
         requires { (self.letters ≤ 16) × (state < 32) }
         ensures { Decides result (RowKept self.states self.letters self.accept self.reject (at steps.now) state) }
     {
-        for column in 0..self.letters + 2 {
-            if !self.allow(state, column, steps[state as usize * 18 + column as usize]) {
-                return false;
-            }
-        }
-        true
+        (0..self.letters + 2).all(|column| {
+            self.allow(state, column, steps[state as usize * 18 + column as usize])
+        })
     }
 
-    pub(crate) fn allow_all(self, steps: &[(u8, u8); 576]) -> bool
+    fn allow_all(self, steps: &[(u8, u8); 576]) -> bool
         requires { (self.letters ≤ 16) × (self.states ≤ 32) }
         ensures { Decides result (Kept self.states self.letters self.accept self.reject (at steps.now)) }
     {
-        for state in 0..self.states {
-            if !self.allow_row(steps, state) {
-                return false;
-            }
-        }
-        true
+        (0..self.states).all(|state| self.allow_row(steps, state))
     }
 }

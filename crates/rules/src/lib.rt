@@ -15,7 +15,7 @@ mod stored;
 
 pub use distance::DistanceRule;
 pub use pair::PairRule;
-pub use rule::{Rule, step};
+pub use rule::{Direction, Move, Rule, step};
 pub use stored::StoredRule;
 
 #[cfg(test)]
@@ -53,15 +53,16 @@ mod tests {
             3
         }
 
-        fn next(&self, state: u8, column: u8) -> Option<(u8, u8)> {
-            match (state, column) {
-                (0 | 1, 0 | 1) => Some((1 - state, 1)),
-                (0 | 1, 2) => Some((state, 1)),
-                (0 | 1, 3) => Some((state + 2, 0)),
-                (2 | 3, 0 | 1 | 2) => Some((state, 1)),
-                (2 | 3, 3) => Some((state, 0)),
-                _ => None,
-            }
+        fn next(&self, state: u8, column: u8) -> Option<Move> {
+            let (to, direction) = match (state, column) {
+                (0 | 1, 0 | 1) => (1 - state, Direction::Right),
+                (0 | 1, 2) => (state, Direction::Right),
+                (0 | 1, 3) => (state + 2, Direction::Left),
+                (2 | 3, 0 | 1 | 2) => (state, Direction::Right),
+                (2 | 3, 3) => (state, Direction::Left),
+                _ => return None,
+            };
+            Some(Move { to, direction })
         }
     }
 
@@ -73,12 +74,11 @@ mod tests {
             if state == rule.accept() || state == rule.reject() {
                 return Some(state == rule.accept());
             }
-            let (to, direction) = rule.next(state, *tape.get(place)?)?;
-            state = to;
-            place = if direction == 1 {
-                place.checked_add(1)?
-            } else {
-                place.checked_sub(1)?
+            let step = rule.next(state, *tape.get(place)?)?;
+            state = step.to;
+            place = match step.direction {
+                Direction::Right => place.checked_add(1)?,
+                Direction::Left => place.checked_sub(1)?,
             };
         }
         None
@@ -131,7 +131,7 @@ mod tests {
                 Ok(())
             },
             Err(refusal) => {
-                assert_eq!(rt; refusal.fault.number(), 17);
+                assert_eq!(rt; u8::from(refusal.fault), 17);
                 Ok(())
             },
         }

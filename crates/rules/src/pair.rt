@@ -2,10 +2,11 @@
 ghost use Rattle.std.specs.Prelude.{◌≡◌, ◌≤◌};
 ghost use Rattle.two_way.specs.Pairs.{blank, pair, fits, shifted, composed_step, first_next};
 ghost use Rattle.rules.specs.Pair.{checked, PairLaw};
+ghost use Rattle.rules.specs.Steps.{told};
 ghost use Rattle.rules.specs.Kinds.{of_pair};
 ghost use Rattle.two_way.proofs.Composed.{pair_lawful};
 
-use crate::rule::{Rule, onward};
+use crate::rule::{Direction, Move, Rule, onward};
 use refusals::{Fault, Refusal};
 
 // Runs the first rule; where that accepts, goes back to the left end and runs the second. Two rules fit where they have the same letters
@@ -17,12 +18,15 @@ pub struct PairRule<A, B> {
 }
 
 // A step where the two do not fit.
-fn blank_next(letters: u8, state: u8, column: u8) -> Option<(u8, u8)>
+fn blank_next(letters: u8, state: u8, column: u8) -> Option<Move>
     requires { letters ≤ 16 }
-    ensures { result ≡ (blank letters).next state column }
+    ensures { told result ≡ (blank letters).next state column }
 {
     if state < 2 && column < letters + 2 {
-        Some((state, onward(letters, column)))
+        Some(Move {
+            to: state,
+            direction: onward(letters, column),
+        })
     } else {
         None
     }
@@ -50,11 +54,7 @@ impl<A: Rule, B: Rule> PairRule<A, B> {
         if self.fits() {
             return Ok(());
         }
-        Err(Refusal {
-            fault: Fault::PairMisfit,
-            line: 0,
-            field: 0,
-        })
+        Err(Refusal::unplaced(Fault::PairMisfit))
     }
 
     fn fits(&self) -> bool
@@ -65,36 +65,42 @@ impl<A: Rule, B: Rule> PairRule<A, B> {
     }
 
     // A step of the second rule, whose states come after the first's.
-    fn second_next(&self, state: u8, column: u8) -> Option<(u8, u8)>
-        ensures { result ≡ shifted (A.Rule.meaning self.now.first).states ((B.Rule.meaning self.now.second).next state column) }
+    fn second_next(&self, state: u8, column: u8) -> Option<Move>
+        ensures { told result ≡ shifted (A.Rule.meaning self.now.first).states ((B.Rule.meaning self.now.second).next state column) }
     {
-        let (to, direction) = self.second.next(state, column)?;
-        Some((self.first.states() + to, direction))
+        let step = self.second.next(state, column)?;
+        Some(Move {
+            to: self.first.states() + step.to,
+            direction: step.direction,
+        })
     }
 
     // The step of a state of the first rule: its accept goes back to the left end, its reject on to the second's.
-    fn first_next(&self, state: u8, column: u8) -> Option<(u8, u8)>
-        ensures { result ≡ first_next (A.Rule.meaning self.now.first) (B.Rule.meaning self.now.second) state column }
+    fn first_next(&self, state: u8, column: u8) -> Option<Move>
+        ensures { told result ≡ first_next (A.Rule.meaning self.now.first) (B.Rule.meaning self.now.second) state column }
     {
         let letters = self.first.letters();
         if state == self.first.accept() {
             if column == letters {
                 self.second_next(self.second.start(), column)
             } else {
-                Some((state, 0))
+                Some(Move {
+                    to: state,
+                    direction: Direction::Left,
+                })
             }
         } else if state == self.first.reject() {
-            Some((
-                self.first.states() + self.second.reject(),
-                onward(letters, column),
-            ))
+            Some(Move {
+                to: self.first.states() + self.second.reject(),
+                direction: onward(letters, column),
+            })
         } else {
             self.first.next(state, column)
         }
     }
 
-    fn composed_next(&self, state: u8, column: u8) -> Option<(u8, u8)>
-        ensures { result ≡ composed_step (A.Rule.meaning self.now.first) (B.Rule.meaning self.now.second) state column }
+    fn composed_next(&self, state: u8, column: u8) -> Option<Move>
+        ensures { told result ≡ composed_step (A.Rule.meaning self.now.first) (B.Rule.meaning self.now.second) state column }
     {
         let before = self.first.states();
         if column >= self.first.letters() + 2 {
@@ -144,7 +150,7 @@ impl<A: Rule, B: Rule> Rule for PairRule<A, B> {
         }
     }
 
-    fn next(&self, state: u8, column: u8) -> Option<(u8, u8)> {
+    fn next(&self, state: u8, column: u8) -> Option<Move> {
         if self.fits() {
             self.composed_next(state, column)
         } else {

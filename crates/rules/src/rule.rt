@@ -1,8 +1,30 @@
 // What a rule is: whatever answers these six questions, by the laws.
-ghost use Rattle.std.specs.Prelude.{◌≡◌, if◌then◌else◌, nat_eq};
-ghost use Rattle.std.specs.Option.{unwrap_or};
-ghost use Rattle.two_way.specs.Automaton.{Automaton, Lawful, to, way, L as leftward, R as rightward};
-ghost use Rattle.rules.specs.Steps.{onward};
+ghost use Rattle.std.specs.Prelude.{◌≡◌};
+ghost use Rattle.two_way.specs.Automaton.{Automaton, Lawful, to, way};
+ghost use Rattle.rules.specs.Steps.{direction_number, told, way_of, stay, onward};
+
+// Which way a step goes.
+#[derive(Clone, Copy, PartialEq, Eq, Debug)]
+pub enum Direction {
+    Left = 0,
+    Right = 1,
+}
+
+// The direction's number.
+impl From<Direction> for u8 {
+    ghost from_gives = { λ direction number. number ≡ direction_number direction };
+
+    fn from(direction: Direction) -> u8 {
+        direction as u8
+    }
+}
+
+// The next state, and which way the step goes.
+#[derive(Clone, Copy, PartialEq, Eq, Debug)]
+pub struct Move {
+    pub to: u8,
+    pub direction: Direction,
+}
 
 pub trait Rule {
     // The automaton whose answers these are.
@@ -23,33 +45,37 @@ pub trait Rule {
     fn reject(&self) -> u8
         ensures { result ≡ (meaning self.now).reject };
 
-    // The step of a state at a column: the next state, and the direction, 0 for L and 1 for R.
-    fn next(&self, state: u8, column: u8) -> Option<(u8, u8)>
-        ensures { result ≡ (meaning self.now).next state column };
+    // The step of a state at a column.
+    fn next(&self, state: u8, column: u8) -> Option<Move>
+        ensures { told result ≡ (meaning self.now).next state column };
 
     ghost lawful: { (x : Self) → Lawful (meaning x) };
 }
 
 // The step of a state at a column; where there is none, the state stays and the direction is L.
-pub fn step<R: Rule>(rule: &R, state: u8, column: u8) -> (u8, u8)
-    ensures to { result.0 ≡ to (R.Rule.meaning rule.now) state column }
-    ensures way { way (R.Rule.meaning rule.now) state column ≡ (if nat_eq result.1 1 then rightward else leftward) }
+pub fn step<R: Rule>(rule: &R, state: u8, column: u8) -> Move
+    ensures to { result.to ≡ to (R.Rule.meaning rule.now) state column }
+    ensures way { way (R.Rule.meaning rule.now) state column ≡ way_of result.direction }
 {
-    or_stay(rule.next(state, column), state)
+    rule.next(state, column).unwrap_or(stay(state))
 }
 
-fn or_stay(next: Option<(u8, u8)>, state: u8) -> (u8, u8)
-    ensures { result ≡ unwrap_or next (state, 0) }
+fn stay(state: u8) -> Move
+    ensures { result ≡ stay state }
 {
-    match next {
-        Some(step) => step,
-        None => (state, 0),
+    Move {
+        to: state,
+        direction: Direction::Left,
     }
 }
 
 // The direction R, but L at the right end.
-pub(crate) fn onward(letters: u8, column: u8) -> u8
-    ensures { result ≡ onward letters column }
+pub(crate) fn onward(letters: u8, column: u8) -> Direction
+    ensures { direction_number result ≡ onward letters column }
 {
-    if column <= letters { 1 } else { 0 }
+    if column <= letters {
+        Direction::Right
+    } else {
+        Direction::Left
+    }
 }

@@ -1,9 +1,10 @@
 // Two-way automata, their runs and their crossing tables: the definitions and the theorems that a library of verdicts rests on.
-// All functions but `number` do nothing. The contract of each is a theorem of specs/Theorems.antt, so the crate checks only with its proof.
+// The functions below the conversions do nothing. The contract of each is a theorem of specs/Theorems.antt, so the crate checks only with its proof.
 
 #![tactic(auto)]
 
-ghost use Rattle.std.specs.Prelude.{◌≡◌, Some};
+ghost use Rattle.std.specs.Prelude.{◌≡◌, Ok};
+ghost use Rattle.std.specs.Option.{ok_or};
 ghost use Rattle.two_way.specs.Verdicts.{number_of, named};
 ghost use Rattle.two_way.specs.declared.Verdict.{Verdict};
 ghost use Rattle.two_way.specs.Theorems.{CrossingsTell, VerdictsAgree, RightCongruence, WalksEnd, RowsCount, PairsDecide, RowsTell};
@@ -11,33 +12,38 @@ ghost use Rattle.two_way.specs.Theorems.{CrossingsTell, VerdictsAgree, RightCong
 // What an automaton says of a word.
 #[derive(Clone, Copy, PartialEq, Eq, Debug)]
 pub enum Verdict {
-    Accepts,
-    Rejects,
-    Loops,
+    Accepts = 1,
+    Rejects = 2,
+    Loops = 3,
 }
 
-impl Verdict {
-    // 1 for accepts, 2 for rejects, 3 for loops.
-    pub fn number(self) -> u8
-        ensures { result ≡ number_of self }
-    {
-        match self {
-            Verdict::Accepts => 1,
-            Verdict::Rejects => 2,
-            Verdict::Loops => 3,
-        }
-    }
+// The verdict's number.
+impl From<Verdict> for u8 {
+    ghost from_gives = { λ verdict number. number ≡ number_of verdict };
 
-    // The verdict with this number, none for any other number.
-    pub fn from_number(number: u8) -> Option<Verdict>
-        ensures named { result ≡ named number }
-        ensures law { (v : Verdict) → (result ≡ Some v → number_of v ≡ number) × (number_of v ≡ number → result ≡ Some v) }
+    fn from(verdict: Verdict) -> u8 {
+        verdict as u8
+    }
+}
+
+// A number that no verdict has.
+#[derive(Clone, Copy, PartialEq, Eq, Debug)]
+pub struct UnknownVerdict(pub u8);
+
+impl TryFrom<u8> for Verdict {
+    type Error = UnknownVerdict;
+
+    ghost try_from_gives = { λ number r. r ≡ ok_or (named number) (record { 0 = number }) };
+
+    fn try_from(number: u8) -> Result<Verdict, UnknownVerdict>
+        ensures named { result ≡ ok_or (named number) (record { 0 = number }) }
+        ensures law { (v : Verdict) → (result ≡ Ok v → number_of v ≡ number) × (number_of v ≡ number → result ≡ Ok v) }
     {
         match number {
-            1 => Some(Verdict::Accepts),
-            2 => Some(Verdict::Rejects),
-            3 => Some(Verdict::Loops),
-            _ => None,
+            1 => Ok(Verdict::Accepts),
+            2 => Ok(Verdict::Rejects),
+            3 => Ok(Verdict::Loops),
+            _ => Err(UnknownVerdict(number)),
         }
     }
 }

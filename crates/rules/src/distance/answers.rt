@@ -2,11 +2,12 @@
 ghost use Rattle.std.specs.Prelude.{◌≡◌, ℕ, ◌+◌, ◌<◌, List, IfOk, MatchBool, MatchResult};
 ghost use Rattle.two_way.specs.Runs.{Word};
 ghost use Rattle.rules.specs.Distance.{has, counted, distance_step, distance_rule, Ranged, out_of_range, DistanceDecides};
+ghost use Rattle.rules.specs.Steps.{pair_of};
 ghost use Rattle.rules.specs.Kinds.{of_distance};
 ghost use Rattle.std.proofs.Common.{rules, arith};
 
 use super::DistanceRule;
-use crate::rule::{Rule, onward};
+use crate::rule::{Direction, Move, Rule, onward};
 use refusals::{Fault, Refusal};
 
 // Whether there is a distance rule with these numbers; and if so, what it decides.
@@ -32,11 +33,7 @@ impl DistanceRule {
                 set,
             })
         } else {
-            Err(Refusal {
-                fault: Fault::DistanceRange,
-                line: 0,
-                field: 0,
-            })
+            Err(Refusal::unplaced(Fault::DistanceRange))
         }
     }
 
@@ -48,31 +45,47 @@ impl DistanceRule {
     }
 
     // The step of a state that counts marks back, on a letter.
-    fn counted(&self, state: u8, letter: u8) -> (u8, u8)
+    fn counted(&self, state: u8, letter: u8) -> Move
         requires { letter < 16 }
-        ensures { result ≡ counted self.now.distance self.now.set state letter }
+        ensures { pair_of result ≡ counted self.now.distance self.now.set state letter }
     {
         if state < self.distance {
-            (state + 1, 0)
-        } else if self.has(letter) {
-            (self.accept(), 1)
-        } else {
-            (self.reject(), 1)
+            return Move {
+                to: state + 1,
+                direction: Direction::Left,
+            };
+        }
+        Move {
+            to: if self.has(letter) {
+                self.accept()
+            } else {
+                self.reject()
+            },
+            direction: Direction::Right,
         }
     }
 
-    fn step(&self, state: u8, column: u8) -> (u8, u8)
-        ensures { result ≡ distance_step self.now.distance self.now.letters self.now.set state column }
+    fn step(&self, state: u8, column: u8) -> Move
+        ensures { pair_of result ≡ distance_step self.now.distance self.now.letters self.now.set state column }
     {
-        let onward = onward(self.letters, column);
+        let direction = onward(self.letters, column);
         if state == 0 {
-            (1 - onward, onward)
+            Move {
+                to: if direction == Direction::Right { 0 } else { 1 },
+                direction,
+            }
         } else if state > self.distance {
-            (state, onward)
+            Move {
+                to: state,
+                direction,
+            }
         } else if column < self.letters {
             self.counted(state, column)
         } else {
-            (self.reject(), onward)
+            Move {
+                to: self.reject(),
+                direction,
+            }
         }
     }
 }
@@ -102,7 +115,7 @@ impl Rule for DistanceRule {
         self.distance + 2
     }
 
-    fn next(&self, state: u8, column: u8) -> Option<(u8, u8)> {
+    fn next(&self, state: u8, column: u8) -> Option<Move> {
         if state < self.states() && column < self.letters + 2 {
             Some(self.step(state, column))
         } else {

@@ -8,33 +8,7 @@ ghost use Rattle.std.proofs.Common.{rules, arith};
 
 use super::StoredRule;
 use crate::bounds::Bounds;
-use crate::rule::Rule;
-
-// Whether the rule with these answers keeps the laws.
-fn keeps_laws(
-    states: u8,
-    letters: u8,
-    start: u8,
-    accept: u8,
-    reject: u8,
-    steps: &[(u8, u8); 576],
-) -> bool
-    ensures { MatchBool result (Sizes states letters start accept reject × Kept states letters accept reject (at steps.now) × Lawful (stored states letters start accept reject steps.now)) (Lawful (stored states letters start accept reject steps.now) → ⊥) }
-{
-    if states < 2 || states > 32 || letters < 1 || letters > 16 {
-        return false;
-    }
-    if start >= states || accept >= states || reject >= states || accept == reject {
-        return false;
-    }
-    let bounds = Bounds {
-        states,
-        letters,
-        accept,
-        reject,
-    };
-    bounds.allow_all(steps)
-}
+use crate::rule::{Direction, Move, Rule};
 
 // Both states keep themselves: R at the letter and the left end, L at the right end.
 fn blank_steps() -> [(u8, u8); 576]
@@ -76,7 +50,13 @@ impl StoredRule {
     ) -> Option<StoredRule>
         ensures { Loaded (stored states letters start accept reject steps.now) result }
     {
-        if keeps_laws(states, letters, start, accept, reject, steps) {
+        let bounds = Bounds {
+            states,
+            letters,
+            accept,
+            reject,
+        };
+        if bounds.keep_laws(start, steps) {
             Some(StoredRule {
                 states,
                 letters,
@@ -116,11 +96,18 @@ impl Rule for StoredRule {
         self.reject
     }
 
-    fn next(&self, state: u8, column: u8) -> Option<(u8, u8)> {
-        if state < self.states && column < self.letters + 2 {
-            Some(self.steps[state as usize * 18 + column as usize])
-        } else {
-            None
+    fn next(&self, state: u8, column: u8) -> Option<Move> {
+        if state >= self.states || column >= self.letters + 2 {
+            return None;
         }
+        let (to, direction) = self.steps[state as usize * 18 + column as usize];
+        Some(Move {
+            to,
+            direction: if direction == 1 {
+                Direction::Right
+            } else {
+                Direction::Left
+            },
+        })
     }
 }

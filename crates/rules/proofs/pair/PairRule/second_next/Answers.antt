@@ -9,4 +9,4 @@ pub overflow_add-result : goal.overflow_add-result
 overflow_add-result g c =
     let a = g.met.A.Rule.lawful c.args.self.now.first in
     let b = g.met.B.Rule.lawful c.args.self.now.second in
-    omega (arith, low _ b c.args.state c.args.column c.in_ok-to.to c.in_ok-to.direction c.in_ok-to.ensures)
+    omega (arith, low _ b c.args.state c.args.column c.in_ok-step.step.to _ c.in_ok-step.ensures)

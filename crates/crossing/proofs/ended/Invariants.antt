@@ -2,7 +2,7 @@ use Rattle.std.proofs.Common.{◌≡◌, ◌-◌}
 use Rattle.two_way.specs.Tables.{ending}
 use Rattle.two_way.specs.Rows.{of_row}
 use Rattle.two_way.proofs.Loops.{run}
-use Rattle.crossing.proofs.verdict_of.Given as goal
+use Rattle.crossing.proofs.ended.Given as goal
 
 -- what is left of the turns gives the answer that all of them give
 abbrev pub invariant-loop-turn : goal.invariant-loop-turn
