@@ -5,7 +5,7 @@ use Rattle.std.specs.List.{slice_get}
 use Rattle.std.specs.Str.{bytes_eq}
 use Rattle.text.specs.Lines.{Line, lines}
 use Rattle.two_way.specs.Automaton.{Lawful}
-use Rattle.rules.specs.Steps.{onward}
+use Rattle.rules.specs.Steps.{told, onward}
 use Rattle.register.specs.Keys.{place_of}
 use Rattle.register.specs.Names.{as_name}
 use Rattle.register.specs.Held.{held}
@@ -33,14 +33,14 @@ pub record DrawnBy (ns : List (List ℕ)) (h : Line) (es : List Line) (x : Draft
   pub accept : place_of bytes_eq ns (field 4 h) ≡ Some x.accept
   pub reject : place_of bytes_eq ns (field 5 h) ≡ Some x.reject
   pub long : length x.steps ≡ 576
-  pub cells : (q c : ℕ) → q < 32 → c < 18 → slice_index_or x.steps (q * 18 + c) None ≡ given ns (letters (h ∷ [])) es q c
+  pub cells : (q c : ℕ) → q < 32 → c < 18 → told (slice_index_or x.steps (q * 18 + c) None) ≡ given ns (letters (h ∷ [])) es q c
 
 abbrev pub Drawn : Line → List Line → Draft → Type 0
 Drawn h es x = DrawnBy (names (h ∷ es)) h es x
 
 -- a step of the rule
 abbrev pub settled : Draft → ℕ → ℕ → ℕ × ℕ
-settled x q c = cond (q == x.accept || q == x.reject) (q, onward x.header.letters c) (unwrap_or (slice_index_or x.steps (q * 18 + c) None) (0, 0))
+settled x q c = cond (q == x.accept || q == x.reject) (q, onward x.header.letters c) (unwrap_or (told (slice_index_or x.steps (q * 18 + c) None)) (0, 0))
 
 -- state q of k, which neither accepts nor rejects, lacks column c
 pub record Gap (x : Draft) (k q c : ℕ) : Type 0 where

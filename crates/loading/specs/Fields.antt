@@ -2,6 +2,7 @@
 use Rattle.std.specs.Prelude.{◌≡◌, ℕ, Some}
 use Rattle.text.specs.Lines.{Line}
 use Rattle.register.specs.Names.{as_name}
+use Rattle.rules.specs.Steps.{direction_number}
 use Rattle.spelling.specs.Words.{letters_of, column_of, direction_of}
 use Rattle.spelling.specs.Said.{field}
 use Rattle.loading.specs.declared.words.Header.{Header}
@@ -19,4 +20,4 @@ pub record Says (m : ℕ) (l : Line) (x : Entry) : Type 0 where
   pub state : x.state ≡ as_name (field 2 l)
   pub column : column_of m (field 3 l) ≡ Some x.column
   pub next : x.next ≡ as_name (field 4 l)
-  pub direction : direction_of (field 5 l) ≡ Some x.direction
+  pub direction : direction_of (field 5 l) ≡ Some (direction_number x.direction)

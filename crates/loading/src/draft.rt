@@ -5,7 +5,7 @@ ghost use Rattle.text.specs.Left.{line_of};
 ghost use Rattle.refusals.specs.declared.fault.Fault.TheVariants.{StepMissing};
 ghost use Rattle.register.specs.Names.{alike_names};
 ghost use Rattle.register.specs.Held.{held};
-ghost use Rattle.rules.specs.Steps.{at};
+ghost use Rattle.rules.specs.Steps.{at, direction_number, pair_of};
 ghost use Rattle.rules.specs.Kinds.{of_stored};
 ghost use Rattle.sheets.specs.Form.{refusal_at};
 ghost use Rattle.spelling.specs.Said.{names as names_of, letters as letters_on};
@@ -19,8 +19,8 @@ use crate::rows::Row;
 use crate::states::States;
 use crate::words::{Entry, Header};
 use refusals::{Fault, Refusal};
-use register::{Key, Name};
-use rules::StoredRule;
+use register::Name;
+use rules::{Direction, Move, StoredRule};
 
 // The steps given so far: that of a state at a column at place 18 * state + column.
 #[derive(Drop)]
@@ -30,7 +30,7 @@ pub struct Draft<'a> {
     pub start: u8,
     pub accept: u8,
     pub reject: u8,
-    pub steps: [Option<(u8, u8)>; 576],
+    pub steps: [Option<Move>; 576],
     // How many lines were read.
     pub lines: u32,
 }
@@ -46,16 +46,26 @@ impl Header {
     fn halts(&self, name: &Name) -> bool
         ensures { result ≡ (alike_names self.now.accept name.now || alike_names self.now.reject name.now) }
     {
-        self.accept.same(name) || self.reject.same(name)
+        self.accept == *name || self.reject == *name
     }
 }
 
 // Whether the direction leads past an end.
-fn leads_out(letters: u8, column: u8, direction: u8) -> bool
+fn leads_out(letters: u8, column: u8, direction: Direction) -> bool
     requires { letters ≤ 16 }
-    ensures { result ≡ wrong_way letters column direction }
+    ensures { result ≡ wrong_way letters column (direction_number direction) }
 {
-    column == letters && direction == 0 || column == letters + 1 && direction == 1
+    match direction {
+        Direction::Left => column == letters,
+        Direction::Right => column == letters + 1,
+    }
+}
+
+// The next state and the direction's number, as a stored rule takes them.
+fn pair_of(step: Move) -> (u8, u8)
+    ensures { result ≡ pair_of step }
+{
+    (step.to, step.direction.into())
 }
 
 impl<'a> Draft<'a> {
@@ -94,7 +104,7 @@ impl<'a> Draft<'a> {
             .states
             .named(entry.state)
             .ok_or(row.refused(Fault::TooManyNames, 2))?;
-        let next = self
+        let to = self
             .states
             .named(entry.next)
             .ok_or(row.refused(Fault::TooManyNames, 4))?;
@@ -105,13 +115,16 @@ impl<'a> Draft<'a> {
         if self.steps[place].is_some() {
             return Err(row.refused(Fault::StepTwice, 3));
         }
-        self.steps[place] = Some((next, entry.direction));
+        self.steps[place] = Some(Move {
+            to,
+            direction: entry.direction,
+        });
         self.lines = row.number;
         Ok(())
     }
 
     // The step of a state at a column, if it was given.
-    fn step(&self, state: u8, column: u8) -> Option<(u8, u8)>
+    fn step(&self, state: u8, column: u8) -> Option<Move>
         requires { (state < 32) × (column < 18) }
         ensures { result ≡ slice_index_or self.now.steps (state * 18 + column) None }
     {
@@ -152,21 +165,30 @@ impl<'a> Draft<'a> {
     }
 
     // A step of the rule: the accept and the reject state keep themselves, going R but at the right end.
-    fn settled(&self, state: u8, column: u8) -> (u8, u8)
+    fn settled(&self, state: u8, column: u8) -> Move
         requires { (state < 32) × (column < 18) }
-        ensures { result ≡ settled self.now state column }
+        ensures { pair_of result ≡ settled self.now state column }
     {
-        if self.is_halt(state) {
-            (state, if column <= self.header.letters { 1 } else { 0 })
-        } else {
-            self.step(state, column).unwrap_or((0, 0))
+        if !self.is_halt(state) {
+            return self.step(state, column).unwrap_or(Move {
+                to: 0,
+                direction: Direction::Left,
+            });
+        }
+        Move {
+            to: state,
+            direction: if column <= self.header.letters {
+                Direction::Right
+            } else {
+                Direction::Left
+            },
         }
     }
 
     fn table(&self) -> [(u8, u8); 576]
         ensures { (q c : ℕ) → q < 32 → c < 18 → at result q c ≡ settled self.now q c }
     {
-        std::array::from_fn(|place| self.settled((place / 18) as u8, (place % 18) as u8))
+        std::array::from_fn(|place| pair_of(self.settled((place / 18) as u8, (place % 18) as u8)))
     }
 
     // The rule, unless a state lacks a column.

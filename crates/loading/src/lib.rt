@@ -62,14 +62,14 @@ fn load(sheet: &[u8]) -> Result<StoredRule, Refusal>
 #[cfg(test)]
 mod tests {
     use super::*;
-    use rules::Rule;
+    use rules::{Direction, Move, Rule};
     use std::test::Fail;
 
     // The number of the condition, its line and its field; none where the sheet is taken.
     fn refusal(sheet: &[u8]) -> Option<(u8, u32, u8)> {
         match read_sheet(sheet) {
             Ok(_) => None,
-            Err(refusal) => Some((refusal.fault.number(), refusal.line, refusal.field)),
+            Err(refusal) => Some((u8::from(refusal.fault), refusal.line, refusal.field)),
         }
     }
 
@@ -82,9 +82,10 @@ mod tests {
         };
         assert_eq!(rt; (rule.states(), rule.letters()), (3, 1));
         assert_eq!(rt; (rule.start(), rule.accept(), rule.reject()), (0, 1, 2));
-        assert_eq!(rt; rule.next(0, 0), Some((0, 0)));
-        assert_eq!(rt; rule.next(0, 1), Some((0, 1)));
-        assert_eq!(rt; rule.next(2, 2), Some((2, 0)));
+        let step = |to, direction| Some(Move { to, direction });
+        assert_eq!(rt; rule.next(0, 0), step(0, Direction::Left));
+        assert_eq!(rt; rule.next(0, 1), step(0, Direction::Right));
+        assert_eq!(rt; rule.next(2, 2), step(2, Direction::Left));
         assert_eq!(rt; refusal(b"rule\t16\tyes\tyes\tno\n"), None);
         Ok(())
     }

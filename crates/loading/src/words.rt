@@ -1,11 +1,14 @@
 // What the fields of a line say.
 ghost use Rattle.std.specs.Prelude.{◌≡◌, ◌<◌, ◌≤◌, None, MatchResult};
+ghost use Rattle.std.specs.Option.{option_map};
 ghost use Rattle.text.specs.Numbers.{number as number_in};
+ghost use Rattle.rules.specs.Steps.{direction_number};
 ghost use Rattle.spelling.specs.Words.{within, letters_of, column_of, direction_of};
 
 use crate::rows::Row;
 use refusals::{Fault, Refusal};
-use register::{Key, Name};
+use register::Name;
+use rules::Direction;
 use text::read_number;
 
 // The number that a text is, if it is from `low` up to, and without, `high`.
@@ -36,13 +39,12 @@ fn read_column(text: &[u8], letters: u8) -> Option<u8>
     }
 }
 
-// 0 for L and 1 for R.
-fn read_direction(text: &[u8]) -> Option<u8>
-    ensures { result ≡ direction_of text.now }
+fn read_direction(text: &[u8]) -> Option<Direction>
+    ensures { option_map direction_number result ≡ direction_of text.now }
 {
     match text {
-        [b'L'] => Some(0),
-        [b'R'] => Some(1),
+        [b'L'] => Some(Direction::Left),
+        [b'R'] => Some(Direction::Right),
         _ => None,
     }
 }
@@ -71,7 +73,7 @@ impl Header {
         let accept = row.name(fields.fourth, 4)?;
         let reject = row.name(fields.fifth, 5)?;
         let letters = read_letters(fields.second).ok_or(row.refused(Fault::LetterOrColumn, 2))?;
-        if accept.same(&reject) {
+        if accept == reject {
             return Err(row.refused(Fault::SameHalts, 5));
         }
         Ok(Header {
@@ -89,7 +91,7 @@ pub struct Entry {
     pub state: Name,
     pub column: u8,
     pub next: Name,
-    pub direction: u8,
+    pub direction: Direction,
     ghost low: { column < 18 },
 }
 
