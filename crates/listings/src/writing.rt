@@ -2,7 +2,7 @@
 // the same calls measure and write.
 ghost use Rattle.std.specs.Prelude.{◌≤◌};
 
-use text::write_long_number;
+use text::write_number;
 
 // A tab and the digits of the largest number.
 const LONGEST_FIELD: usize = 21;
@@ -59,7 +59,7 @@ impl<'a> Writer<'a> {
         ensures continues { Continues self.old self.new }
     {
         let mut field = [b'\t'; LONGEST_FIELD];
-        let digits = write_long_number(n, &mut field[1..]).unwrap();
+        let digits = write_number(n, &mut field[1..]).unwrap();
         self.put(&field[..digits + 1])
     }
 }

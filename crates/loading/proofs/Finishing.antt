@@ -1,5 +1,5 @@
 -- The rule of a draft that lacks no column is the rule that the lines give.
-use Rattle.std.proofs.Common.{◌≡◌, ℕ, ◌+◌, ◌*◌, ◌<◌, ◌≤◌, true, false, cond, ◌||◌, eqb, List, [], ◌∷◌, length, get_or, Some, None, Option, unwrap_or, sym, ap, ◌∙◌, inl, inr, arith}
+use Rattle.std.proofs.Common.{◌≡◌, ℕ, ◌+◌, ◌*◌, ◌<◌, ◌≤◌, true, false, cond, ◌||◌, eqb, List, [], ◌∷◌, length, get_or, Some, None, Option, unwrap_or, sym, refl, ap, ◌∙◌, inl, inr, arith}
 use mathlib.Core.Path.{fun_ext}
 use Rattle.std.specs.List.{slice_get}
 use Rattle.std.specs.Str.{bytes_eq}
@@ -8,7 +8,8 @@ use Rattle.std.proofs.lemmas.Option.{slice_get-get_or, slice_get_past}
 use Rattle.std.proofs.lemmas.Bool.{cases_Bool, cases_lt, or_parts, or_from, eqb-false, ne_eqb}
 use Rattle.std.proofs.lemmas.Bool.Decides.{nat_tests, same_from_decides, Decides-eqb}
 use Rattle.text.specs.Lines.{Line}
-use Rattle.rules.specs.Steps.{automaton, at, stored, onward}
+use Rattle.rules.specs.Steps.{automaton, at, stored, told, onward}
+use Rattle.rules.specs.declared.rule.Move.{Move}
 use Rattle.spelling.specs.Said.{field, names, letters, found, halts}
 use Rattle.spelling.specs.Conditions.{lacks}
 use Rattle.spelling.specs.Reading.{step_of, step_in, rule_of}
@@ -18,6 +19,10 @@ use Rattle.spelling.proofs.LoadNames.{none_some, place, state_is, apart_names}
 use Rattle.spelling.proofs.LoadEntries.{step_none, any_true, any_lacking}
 use Rattle.loading.specs.Drawn.{given_for, settled, Gap, Drawn}
 use Rattle.loading.specs.declared.draft.Draft.{Draft}
+
+none_told : (o : Option Move) → told o ≡ None → o ≡ None
+none_told None e = refl
+none_told (Some m) e = absurd (none_some _ (sym e))
 
 -- two automata with the same numbers and the same steps in range are one
 same_automaton : (k m s t r : ℕ) (f g : ℕ → ℕ → ℕ × ℕ) → ((q c : ℕ) → q < k → c < m + 2 → f q c ≡ g q c) → automaton k m s t r f ≡ automaton k m s t r g
@@ -48,7 +53,7 @@ module _ (h : Line) (es : List Line) (x : Draft) (D : Drawn h es x) where
   halts_is : (q : ℕ) (y : List ℕ) → slice_get (names (h ∷ es)) q ≡ Some y → halts (h ∷ es) y ≡ (eqb q x.accept || eqb q x.reject)
   halts_is q y e = (λ i. test_is q x.accept y (field 4 h) e D.accept i || test_is q x.reject y (field 5 h) e D.reject i)
 
-  cell_at : (q c : ℕ) (y : List ℕ) → q < 32 → c < 18 → slice_get (names (h ∷ es)) q ≡ Some y → get_or x.steps (q * 18 + c) None ≡ step_of (names (h ∷ es)) (found (letters (h ∷ es)) y c es)
+  cell_at : (q c : ℕ) (y : List ℕ) → q < 32 → c < 18 → slice_get (names (h ∷ es)) q ≡ Some y → told (get_or x.steps (q * 18 + c) None) ≡ step_of (names (h ∷ es)) (found (letters (h ∷ es)) y c es)
   cell_at q c y hq hc e = D.cells q c hq hc ∙ ap (given_for (names (h ∷ es)) (letters (h ∷ es)) es c) e
 
   module _ (k : ℕ) (count : k ≡ length (names (h ∷ es))) (few : k ≤ 32) where
@@ -60,7 +65,7 @@ module _ (h : Line) (es : List Line) (x : Draft) (D : Drawn h es x) where
         let y = get_or (names (h ∷ es)) q [] in
         let e = name_at q g.state in
         let z : halts (h ∷ es) y ≡ false = halts_is q y e ∙ or_from _ _ (ne_eqb q x.accept g.goes_on.0) (ne_eqb q x.reject g.goes_on.1) in
-        let n : found (letters (h ∷ es)) y c es ≡ None = step_none (names (h ∷ es)) (found (letters (h ∷ es)) y c es) (sym (cell_at q c y (omega (arith, g.state)) (omega (arith, g.column, few_letters)) e) ∙ g.none) in
+        let n : found (letters (h ∷ es)) y c es ≡ None = step_none (names (h ∷ es)) (found (letters (h ∷ es)) y c es) (sym (cell_at q c y (omega (arith, g.state)) (omega (arith, g.column, few_letters)) e) ∙ ap told g.none) in
         any_true (h ∷ es) (names (h ∷ es)) q y c e z (omega (arith, letters_are, g.column)) n
 
     some_low : (q : ℕ) (y : List ℕ) → slice_get (names (h ∷ es)) q ≡ Some y → q < k
@@ -82,7 +87,7 @@ module _ (h : Line) (es : List Line) (x : Draft) (D : Drawn h es x) where
               state = l;
               goes_on = (eqb-false w.state x.accept z.0, eqb-false w.state x.reject z.1);
               column = lc;
-              none = cell_at w.state w.column w.name (omega arith) (omega (arith, few_letters)) w.named ∙ ap (step_of (names (h ∷ es))) w.none;
+              none = none_told _ (cell_at w.state w.column w.name (omega arith) (omega (arith, few_letters)) w.named ∙ ap (step_of (names (h ∷ es))) w.none);
             }))
         | inr z ↦ z
       ]

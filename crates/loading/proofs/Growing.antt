@@ -1,11 +1,15 @@
 -- The draft of line 1, and the draft after one more entry.
-use Rattle.std.proofs.Common.{◌≡◌, ℕ, ◌+◌, ◌*◌, ◌<◌, true, false, eqb, List, [], ◌∷◌, ◌++◌, length, get_or, set, replicate, is_some, Some, None, Option, unwrap_or, sym, refl, ap, ◌∙◌, subst, inl, inr, arith}
+use Rattle.std.proofs.Common.{◌≡◌, ℕ, ◌+◌, ◌*◌, ◌<◌, true, false, eqb, List, [], ◌∷◌, ◌++◌, map, length, get_or, set, replicate, is_some, Some, None, Option, unwrap_or, sym, refl, ap, ◌∙◌, subst, inl, inr, arith}
 use Rattle.std.specs.List.{slice_get}
 use Rattle.std.specs.Str.{bytes_eq}
 use Rattle.std.proofs.lemmas.Slice.Eq.{bytes_eq-Decides}
 use Rattle.std.proofs.lemmas.List.{length-set, get_or-set_same, get_or-set_other, length-replicate, get_or-replicate}
 use Rattle.std.proofs.lemmas.Bool.{cases_Bool, cases_eq, and_parts, and_from, eqb-true, eq-eqb}
 use Rattle.text.specs.Lines.{Line}
+use Rattle.register.specs.Names.{as_name}
+use Rattle.register.specs.Held.{held}
+use Rattle.rules.specs.Steps.{direction_number, told}
+use Rattle.rules.specs.declared.rule.Move.{Move}
 use Rattle.spelling.specs.Words.{column_of}
 use Rattle.spelling.specs.Said.{field, with_name, names, letters, is_for, found}
 use Rattle.spelling.specs.Conditions.{entry_direction}
@@ -16,6 +20,11 @@ use Rattle.spelling.proofs.LoadEntries.{found_skip, found_last, step_kept, new_n
 use Rattle.loading.specs.Fields.{Heads}
 use Rattle.loading.specs.Drawn.{given, given_for, Drawn, DrawnBy}
 use Rattle.loading.specs.declared.draft.Draft.{Draft}
+use Rattle.loading.specs.declared.states.States.{States}
+
+pub isSome_told : (o : Option Move) → is_some (told o) ≡ is_some o
+isSome_told None = refl
+isSome_told (Some m) = refl
 
 -- one more name gives the same steps
 module _ (ns : List (List ℕ)) (f : List ℕ) (m : ℕ) (es : List Line) (K : Known ns es) where
@@ -69,7 +78,8 @@ module _ (h : Line) (es : List Line) (l : Line) (x : Draft) (ns : List (List ℕ
   -- a step is given exactly where an entry is found
   found_by : (f : List ℕ) (s c : ℕ) → place (with_name ns f) f ≡ Some s → s < 32 → c < 18 → is_some (get_or x.steps (s * 18 + c) None) ≡ is_some (found (letters (h ∷ [])) f c es)
   found_by f s c e hs hc =
-      ap is_some (D.cells s c hs hc ∙ sym (given_with ns f (letters (h ∷ [])) es K s c) ∙ ap (given_for (with_name ns f) (letters (h ∷ [])) es c) (placed_nth (with_name ns f) f s e))
+      sym (isSome_told (get_or x.steps (s * 18 + c) None))
+      ∙ ap is_some (D.cells s c hs hc ∙ sym (given_with ns f (letters (h ∷ [])) es K s c) ∙ ap (given_for (with_name ns f) (letters (h ∷ [])) es c) (placed_nth (with_name ns f) f s e))
       ∙ isSome_step (with_name ns f) (found (letters (h ∷ [])) f c es)
 
   kept : (f : List ℕ) (i : ℕ) → place ns f ≡ Some i → place (with_two ns l) f ≡ Some i
@@ -80,33 +90,35 @@ module _ (h : Line) (es : List Line) (l : Line) (x : Draft) (ns : List (List ℕ
       given_with (with_name ns (field 2 l)) (field 4 l) (letters (h ∷ [])) es (known_more ns (field 2 l) es K) q c
       ∙ given_with ns (field 2 l) (letters (h ∷ [])) es K q c
 
-  module _ (s p c d : ℕ) (from : place (with_name ns (field 2 l)) (field 2 l) ≡ Some s) (to : place (with_two ns l) (field 4 l) ≡ Some p) (col : unwrap_or (column_of (letters (h ∷ [])) (field 3 l)) 0 ≡ c) (way : entry_direction l ≡ d)
+  module _ (s c : ℕ) (m : Move) (from : place (with_name ns (field 2 l)) (field 2 l) ≡ Some s) (to : place (with_two ns l) (field 4 l) ≡ Some m.to) (col : unwrap_or (column_of (letters (h ∷ [])) (field 3 l)) 0 ≡ c) (way : entry_direction l ≡ direction_number m.direction)
       (low : s < 32) (cols : c < 18) (free : found (letters (h ∷ [])) (field 2 l) c es ≡ None) where
     here : place (with_two ns l) (field 2 l) ≡ Some s
     here = with_kept (with_name ns (field 2 l)) (field 4 l) (field 2 l) s from
 
-    cell : (q b : ℕ) → q < 32 → b < 18 → get_or (set x.steps (s * 18 + c) (Some (p, d))) (q * 18 + b) None ≡ given (with_two ns l) (letters (h ∷ [])) (es ++ l ∷ []) q b
+    cell : (q b : ℕ) → q < 32 → b < 18 → told (get_or (set x.steps (s * 18 + c) (Some m)) (q * 18 + b) None) ≡ given (with_two ns l) (letters (h ∷ [])) (es ++ l ∷ []) q b
     cell q b hq hb = elim (cases_eq (q * 18 + b) (s * 18 + c)) [
       | inl e ↦
           let q_is : q ≡ s = omega arith in
           let b_is : b ≡ c = omega arith in
           let lt : s * 18 + c < length x.steps = omega (arith, D.long) in
           rw (q_is, b_is)
-          (get_or-set_same x.steps (s * 18 + c) (Some (p, d)) None lt
-          ∙ sym (given_here (with_two ns l) (letters (h ∷ [])) es l A s c d here col free p to way))
+          (ap told (get_or-set_same x.steps (s * 18 + c) (Some m) None lt)
+          ∙ sym (given_here (with_two ns l) (letters (h ∷ [])) es l A s c (direction_number m.direction) here col free m.to to way))
       | inr ne ↦
-          get_or-set_other x.steps (s * 18 + c) (q * 18 + b) (Some (p, d)) None ne
+          ap told (get_or-set_other x.steps (s * 18 + c) (q * 18 + b) (Some m) None ne)
           ∙ D.cells q b hq hb ∙ sym (grown q b)
-          ∙ sym (given_other (with_two ns l) (letters (h ∷ [])) es l A s c d here col q b (λ e f. ne (omega arith)))
+          ∙ sym (given_other (with_two ns l) (letters (h ∷ [])) es l A s c (direction_number m.direction) here col q b (λ e f. ne (omega arith)))
     ]
 
-    more : DrawnBy (with_two ns l) h (es ++ l ∷ []) (record { header = x.header; start = x.start; accept = x.accept; reject = x.reject; steps = set x.steps (s * 18 + c) (Some (p, d)) })
-    more = record {
+    more : (S : States) (n : ℕ) → held S.names ≡ map as_name (with_two ns l)
+        → DrawnBy (with_two ns l) h (es ++ l ∷ []) (record { header = x.header; states = S; start = x.start; accept = x.accept; reject = x.reject; steps = set x.steps (s * 18 + c) (Some m); lines = n })
+    more S n N = record {
       heads = D.heads;
+      named = N;
       start = kept (field 3 h) x.start D.start;
       accept = kept (field 4 h) x.accept D.accept;
       reject = kept (field 5 h) x.reject D.reject;
-      long = length-set x.steps (s * 18 + c) (Some (p, d)) ∙ D.long;
+      long = length-set x.steps (s * 18 + c) (Some m) ∙ D.long;
       cells = cell;
     }
 
@@ -118,34 +130,36 @@ module _ (h : Line) (es : List Line) (l : Line) (x : Draft) (D : Drawn h es x) w
   pub found_cell : (s c : ℕ) → place (with_name (names (h ∷ es)) (field 2 l)) (field 2 l) ≡ Some s → s < 32 → c < 18 → is_some (get_or x.steps (s * 18 + c) None) ≡ is_some (found (letters (h ∷ es)) (field 2 l) c es)
   found_cell = found_by h es l x (names (h ∷ es)) apart (known_names h es) D (field 2 l)
 
-  pub drawn_more : (s p c d : ℕ) → place (with_name (names (h ∷ es)) (field 2 l)) (field 2 l) ≡ Some s → place (with_two (names (h ∷ es)) l) (field 4 l) ≡ Some p → unwrap_or (column_of (letters (h ∷ es)) (field 3 l)) 0 ≡ c → entry_direction l ≡ d
+  pub drawn_more : (S : States) (s c n : ℕ) (m : Move) → held S.names ≡ map as_name (with_two (names (h ∷ es)) l)
+      → place (with_name (names (h ∷ es)) (field 2 l)) (field 2 l) ≡ Some s → place (with_two (names (h ∷ es)) l) (field 4 l) ≡ Some m.to → unwrap_or (column_of (letters (h ∷ es)) (field 3 l)) 0 ≡ c → entry_direction l ≡ direction_number m.direction
       → s < 32 → c < 18 → found (letters (h ∷ es)) (field 2 l) c es ≡ None
-      → Drawn h (es ++ l ∷ []) (record { header = x.header; start = x.start; accept = x.accept; reject = x.reject; steps = set x.steps (s * 18 + c) (Some (p, d)) })
-  drawn_more s p c d from to col way low cols free =
-      subst (λ (ks : List (List ℕ)). DrawnBy ks h (es ++ l ∷ []) (record { header = x.header; start = x.start; accept = x.accept; reject = x.reject; steps = set x.steps (s * 18 + c) (Some (p, d)) })) (sym (names_more h es l))
-      (more h es l x (names (h ∷ es)) apart (known_names h es) D s p c d from to col way low cols free)
+      → Drawn h (es ++ l ∷ []) (record { header = x.header; states = S; start = x.start; accept = x.accept; reject = x.reject; steps = set x.steps (s * 18 + c) (Some m); lines = n })
+  drawn_more S s c n m N from to col way low cols free =
+      subst (λ (ks : List (List ℕ)). DrawnBy ks h (es ++ l ∷ []) (record { header = x.header; states = S; start = x.start; accept = x.accept; reject = x.reject; steps = set x.steps (s * 18 + c) (Some m); lines = n })) (sym (names_more h es l))
+      (more h es l x (names (h ∷ es)) apart (known_names h es) D s c m from to col way low cols free S n N)
 
 none_given : (ns : List (List ℕ)) (m c : ℕ) (o : Option (List ℕ)) → given_for ns m [] c o ≡ None
 none_given ns m c None = refl
 none_given ns m c (Some x) = refl
 
 -- the draft of line 1
-pub drawn_first : (h : Line) (x : Draft) → Heads h x.header
+pub drawn_first : (h : Line) (x : Draft) → Heads h x.header → held x.states.names ≡ map as_name (names (h ∷ []))
     → place (with_name [] (field 3 h)) (field 3 h) ≡ Some x.start
     → place (with_name (with_name [] (field 3 h)) (field 4 h)) (field 4 h) ≡ Some x.accept
     → place (names (h ∷ [])) (field 5 h) ≡ Some x.reject
     → x.steps ≡ replicate 576 None → Drawn h [] x
-drawn_first h x H s t r e =
+drawn_first h x H N s t r e =
     let first = with_name [] (field 3 h) in
     let second = with_name first (field 4 h) in
     record {
       heads = H;
+      named = N;
       start = with_kept second (field 5 h) (field 3 h) x.start (with_kept first (field 4 h) (field 3 h) x.start s);
       accept = with_kept second (field 5 h) (field 4 h) x.accept t;
       reject = r;
-      long = ap length e ∙ (let z : Option (ℕ × ℕ) = None in length-replicate 576 z);
+      long = ap length e ∙ (let z : Option Move = None in length-replicate 576 z);
       cells = λ q c hq hc.
-          ap (λ (xs : List (Option (ℕ × ℕ))). get_or xs (q * 18 + c) None) e
-          ∙ get_or-replicate 576 (q * 18 + c) None None (omega arith)
+          ap (λ (xs : List (Option Move)). told (get_or xs (q * 18 + c) None)) e
+          ∙ ap told (get_or-replicate 576 (q * 18 + c) None None (omega arith))
           ∙ sym (none_given (names (h ∷ [])) (letters (h ∷ [])) c (slice_get (names (h ∷ [])) q));
     }

@@ -2,3 +2,4 @@ pub mod Formed
 pub mod Growing
 pub mod Entering
 pub mod Finishing
+pub mod Ranges

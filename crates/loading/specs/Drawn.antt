@@ -5,22 +5,16 @@ use Rattle.std.specs.List.{slice_get}
 use Rattle.std.specs.Str.{bytes_eq}
 use Rattle.text.specs.Lines.{Line, lines}
 use Rattle.two_way.specs.Automaton.{Lawful}
-use Rattle.rules.specs.Steps.{onward}
+use Rattle.rules.specs.Steps.{told, onward}
 use Rattle.register.specs.Keys.{place_of}
 use Rattle.register.specs.Names.{as_name}
-use Rattle.register.specs.Held.{held, places}
-use Rattle.register.specs.declared.Register.{Register}
-use Rattle.register.specs.declared.names.Name.{Name}
+use Rattle.register.specs.Held.{held}
 use Rattle.spelling.specs.Said.{field, names, letters, found}
-use Rattle.spelling.specs.Conditions.{longest, lacks, refused, refused_from}
+use Rattle.sheets.specs.Form.{longest}
+use Rattle.spelling.specs.Conditions.{lacks, refused, refused_from}
 use Rattle.spelling.specs.Reading.{step_of, rule_of}
 use Rattle.loading.specs.Fields.{Heads}
 use Rattle.loading.specs.declared.draft.Draft.{Draft}
-
--- the register has these names, and 32 places
-pub record Named (ns : List (List ℕ)) (r : Register Name) : Type 0 where
-  pub same : held r ≡ map as_name ns
-  pub room : length (places r) ≡ 32
 
 -- the step that entries among m letters give at column c for a name, if there is one
 abbrev pub given_for : List (List ℕ) → ℕ → List Line → ℕ → Option (List ℕ) → Option (ℕ × ℕ)
@@ -34,18 +28,19 @@ given ns m es q c = given_for ns m es c (slice_get ns q)
 -- the draft of the lines h ∷ es, whose names are ns
 pub record DrawnBy (ns : List (List ℕ)) (h : Line) (es : List Line) (x : Draft) : Type 0 where
   pub heads : Heads h x.header
+  pub named : held x.states.names ≡ map as_name ns
   pub start : place_of bytes_eq ns (field 3 h) ≡ Some x.start
   pub accept : place_of bytes_eq ns (field 4 h) ≡ Some x.accept
   pub reject : place_of bytes_eq ns (field 5 h) ≡ Some x.reject
   pub long : length x.steps ≡ 576
-  pub cells : (q c : ℕ) → q < 32 → c < 18 → slice_index_or x.steps (q * 18 + c) None ≡ given ns (letters (h ∷ [])) es q c
+  pub cells : (q c : ℕ) → q < 32 → c < 18 → told (slice_index_or x.steps (q * 18 + c) None) ≡ given ns (letters (h ∷ [])) es q c
 
 abbrev pub Drawn : Line → List Line → Draft → Type 0
 Drawn h es x = DrawnBy (names (h ∷ es)) h es x
 
 -- a step of the rule
 abbrev pub settled : Draft → ℕ → ℕ → ℕ × ℕ
-settled x q c = cond (q == x.accept || q == x.reject) (q, onward x.header.letters c) (unwrap_or (slice_index_or x.steps (q * 18 + c) None) (0, 0))
+settled x q c = cond (q == x.accept || q == x.reject) (q, onward x.header.letters c) (unwrap_or (told (slice_index_or x.steps (q * 18 + c) None)) (0, 0))
 
 -- state q of k, which neither accepts nor rejects, lacks column c
 pub record Gap (x : Draft) (k q c : ℕ) : Type 0 where
@@ -54,22 +49,20 @@ pub record Gap (x : Draft) (k q c : ℕ) : Type 0 where
   pub column : c < x.header.letters + 2
   pub none : slice_index_or x.steps (q * 18 + c) None ≡ None
 
--- the draft of lines that have k names, and that are lawful where no column lacks
-pub record Ready (x : Draft) (k : ℕ) : Type 0 where
+-- the draft of lines that are lawful where no column lacks
+pub record Ready (x : Draft) : Type 0 where
   pub head : Line
   pub rest : List Line
   pub drawn : Drawn head rest x
-  pub states : k ≡ length (names (head ∷ rest))
-  pub few : k ≤ 32
   pub lawful : lacks (head ∷ rest) ≡ false → Lawful (rule_of (head ∷ rest))
+  pub short : x.lines ≤ longest
 
 -- the first lines of a sheet are read, none of them refused; `left` are the others
-pub record Going (sheet : List ℕ) (left : List Line) (count : ℕ) (r : Register Name) (x : Draft) : Type 0 where
+pub record Going (sheet : List ℕ) (left : List Line) (x : Draft) : Type 0 where
   pub head : Line
   pub done : List Line
-  pub named : Named (names (head ∷ done)) r
   pub drawn : Drawn head done x
-  pub counted : count ≡ length done + 1
+  pub counted : x.lines ≡ length done + 1
   pub all : lines sheet ≡ head ∷ (done ++ left)
   pub on : refused sheet ≡ refused_from (head ∷ done) left
-  pub short : count + length left ≤ longest
+  pub short : x.lines + length left ≤ longest

@@ -1,16 +1,12 @@
 -- What the code holds of the fields of one line. Assumes nothing.
-use Rattle.std.specs.Prelude.{◌≡◌, ℕ, List, [], ◌∷◌, Some}
+use Rattle.std.specs.Prelude.{◌≡◌, ℕ, Some}
 use Rattle.text.specs.Lines.{Line}
 use Rattle.register.specs.Names.{as_name}
+use Rattle.rules.specs.Steps.{direction_number}
 use Rattle.spelling.specs.Words.{letters_of, column_of, direction_of}
 use Rattle.spelling.specs.Said.{field}
-use Rattle.loading.specs.declared.rows.RowFields.{RowFields}
 use Rattle.loading.specs.declared.words.Header.{Header}
 use Rattle.loading.specs.declared.words.Entry.{Entry}
-
--- the word and the four fields after it
-abbrev pub all_fields : List ℕ → RowFields → List (List ℕ)
-all_fields word x = word ∷ x.second.now ∷ x.third.now ∷ x.fourth.now ∷ x.fifth.now ∷ []
 
 -- the words of line 1
 pub record Heads (l : Line) (x : Header) : Type 0 where
@@ -24,4 +20,4 @@ pub record Says (m : ℕ) (l : Line) (x : Entry) : Type 0 where
   pub state : x.state ≡ as_name (field 2 l)
   pub column : column_of m (field 3 l) ≡ Some x.column
   pub next : x.next ≡ as_name (field 4 l)
-  pub direction : direction_of (field 5 l) ≡ Some x.direction
+  pub direction : direction_of (field 5 l) ≡ Some (direction_number x.direction)

@@ -1,215 +1,218 @@
 // A rule while its sheet is read.
-ghost use Rattle.std.specs.Prelude.{◌≡◌, ℕ, ◌+◌, ◌*◌, ◌<◌, ◌≤◌, true, false, ◌||◌, List, [], ◌∷◌, ◌++◌, length, replicate, None, MatchOption, MatchResult, ◌≢◌, slice_index_or};
+ghost use Rattle.std.specs.Prelude.{◌≡◌, ℕ, ◌+◌, ◌*◌, ◌<◌, ◌≤◌, true, false, ◌||◌, List, [], ◌∷◌, ◌++◌, length, None, MatchResult, ◌≢◌, ◌==◌, slice_index_or};
 ghost use Rattle.text.specs.Lines.{Line as SheetLine};
 ghost use Rattle.text.specs.Left.{line_of};
-ghost use Rattle.register.specs.Keys.{seat_of, keys_after};
+ghost use Rattle.refusals.specs.declared.fault.Fault.TheVariants.{StepMissing};
 ghost use Rattle.register.specs.Names.{alike_names};
-ghost use Rattle.register.specs.Held.{held, places};
-ghost use Rattle.rules.specs.Steps.{at};
+ghost use Rattle.register.specs.Held.{held};
+ghost use Rattle.rules.specs.Steps.{at, direction_number, pair_of};
 ghost use Rattle.rules.specs.Kinds.{of_stored};
+ghost use Rattle.sheets.specs.Form.{refusal_at};
 ghost use Rattle.spelling.specs.Said.{names as names_of, letters as letters_on};
 ghost use Rattle.spelling.specs.Conditions.{first_met, step_conditions, wrong_way, lacks as lacking};
 ghost use Rattle.spelling.specs.Reading.{rule_of};
 ghost use Rattle.loading.specs.Fields.{Heads, Says};
 ghost use Rattle.loading.specs.Telling.{told_on};
-ghost use Rattle.loading.specs.Drawn.{Named, Drawn, settled, Gap, Ready};
+ghost use Rattle.loading.specs.Drawn.{Drawn, settled, Gap, Ready};
 
 use crate::rows::Row;
+use crate::states::States;
 use crate::words::{Entry, Header};
 use refusals::{Fault, Refusal};
-use register::{Key, Name, Register};
-use rules::StoredRule;
+use register::Name;
+use rules::{Direction, Move, Numbers, StoredRule};
 
 // The steps given so far: that of a state at a column at place 18 * state + column.
-#[derive(Clone, Copy)]
-pub struct Draft {
+#[derive(Drop)]
+pub struct Draft<'a> {
     pub header: Header,
+    pub states: States<'a>,
     pub start: u8,
     pub accept: u8,
     pub reject: u8,
-    pub steps: [Option<(u8, u8)>; 576],
+    pub steps: [Option<Move>; 576],
+    // How many lines were read.
+    pub lines: u32,
 }
 
-// The state with this name, which is the next one if the name is new; none if there are 32 others.
-fn state_named(names: &mut Register<Name>, name: Name) -> Option<u8>
-    requires { length (places names.old) ≡ 32 }
-    ensures place { result ≡ seat_of alike_names 32 (held names.old) name }
-    ensures keys { held names.new ≡ keys_after alike_names 32 (held names.old) name }
-    ensures room { length (places names.new) ≡ 32 }
+fn place_of(state: u8, column: u8) -> usize
+    ensures { result ≡ state * 18 + column }
 {
-    match names.add(name) {
-        Some(place) => Some(place as u8),
-        None => None,
+    18 * usize::from(state) + usize::from(column)
+}
+
+impl Header {
+    // Whether the name is that of the accept or of the reject state.
+    fn halts(&self, name: &Name) -> bool
+        ensures { result ≡ (alike_names self.now.accept name.now || alike_names self.now.reject name.now) }
+    {
+        self.accept == *name || self.reject == *name
     }
-}
-
-fn no_steps() -> [Option<(u8, u8)>; 576]
-    ensures { result ≡ replicate 576 None }
-{
-    [None; 576]
-}
-
-// The draft of line 1.
-pub(crate) fn open(names: &mut Register<Name>, header: Header) -> Draft
-    requires named { Named [] names.old }
-    requires heads { (h : SheetLine) × Heads h header }
-    ensures { (h : SheetLine) → Heads h header → Named (names_of (h ∷ [])) names.new × Drawn h [] result }
-{
-    let Some(start) = state_named(names, header.start) else {
-        unreachable()
-    };
-    let Some(accept) = state_named(names, header.accept) else {
-        unreachable()
-    };
-    let Some(reject) = state_named(names, header.reject) else {
-        unreachable()
-    };
-    Draft {
-        header,
-        start,
-        accept,
-        reject,
-        steps: no_steps(),
-    }
-}
-
-// Whether the name is that of the accept or of the reject state.
-fn halts(header: &Header, name: &Name) -> bool
-    ensures { result ≡ (alike_names header.now.accept name.now || alike_names header.now.reject name.now) }
-{
-    header.accept.same(name) || header.reject.same(name)
 }
 
 // Whether the direction leads past an end.
-fn leads_out(letters: u8, column: u8, direction: u8) -> bool
+fn leads_out(letters: u8, column: u8, direction: Direction) -> bool
     requires { letters ≤ 16 }
-    ensures { result ≡ wrong_way letters column direction }
+    ensures { result ≡ wrong_way letters column (direction_number direction) }
 {
-    column == letters && direction == 0 || column == letters + 1 && direction == 1
+    match direction {
+        Direction::Left => column == letters,
+        Direction::Right => column == letters + 1,
+    }
 }
 
-// A later line: a step of a state that neither accepts nor rejects.
-pub(crate) fn enter(
-    names: &mut Register<Name>,
-    draft: &mut Draft,
-    row: Row,
-    entry: Entry,
-) -> Result<(), Refusal>
-    requires room { length (places names.old) ≡ 32 }
-    requires letters { draft.old.header.letters ≤ 16 }
-    requires column { entry.column < 18 }
-    ensures drawn { (h : SheetLine) (es : List SheetLine) → Named (names_of (h ∷ es)) names.old → Drawn h es draft.old → Says (letters_on (h ∷ es)) (line_of row.entry.line) entry →
-        MatchResult result
-        (λ _. (first_met (step_conditions (h ∷ es) (line_of row.entry.line)) ≡ None) × Named (names_of (h ∷ (es ++ (line_of row.entry.line ∷ [])))) names.new × Drawn h (es ++ (line_of row.entry.line ∷ [])) draft.new)
-        (λ e. told_on row.entry.number e (first_met (step_conditions (h ∷ es) (line_of row.entry.line)))) }
-    ensures room { length (places names.new) ≡ 32 }
+// The next state and the direction's number, as a stored rule takes them.
+fn pair_of(step: Move) -> (u8, u8)
+    ensures { result ≡ pair_of step }
 {
-    if halts(&draft.header, &entry.state) {
-        return Err(row.refused(Fault::HaltLine, 2));
-    }
-    let Some(state) = state_named(names, entry.state) else {
-        return Err(row.refused(Fault::TooManyNames, 2));
-    };
-    let Some(next) = state_named(names, entry.next) else {
-        return Err(row.refused(Fault::TooManyNames, 4));
-    };
-    if leads_out(draft.header.letters, entry.column, entry.direction) {
-        return Err(row.refused(Fault::EndDirection, 5));
-    }
-    let place = state as usize * 18 + entry.column as usize;
-    if draft.steps[place].is_some() {
-        return Err(row.refused(Fault::StepTwice, 3));
-    }
-    draft.steps[place] = Some((next, entry.direction));
-    Ok(())
+    (step.to, step.direction.into())
 }
 
-// Whether a state lacks one of the first columns.
-fn row_lacks(steps: &[Option<(u8, u8)>], state: u8, columns: u8) -> bool
-    requires { (length steps.now ≡ 576) × (state < 32) × (columns ≤ 18) }
-    ensures gap { result ≡ true → (c : ℕ) × (c < columns) × (slice_index_or steps.now (state * 18 + c) None ≡ None) }
-    ensures full { result ≡ false → (c : ℕ) → c < columns → slice_index_or steps.now (state * 18 + c) None ≢ None }
-{
-    for c in 0..columns {
-        if steps[state as usize * 18 + c as usize].is_none() {
-            return true;
+impl<'a> Draft<'a> {
+    // The draft of line 1.
+    pub(crate) fn new(header: Header, mut states: States<'a>) -> Self
+        requires none { held states.names ≡ [] }
+        requires heads { (h : SheetLine) × Heads h header }
+        ensures drawn { (h : SheetLine) → Heads h header → Drawn h [] result }
+        ensures lines { result.lines ≡ 1 }
+    {
+        let start = states.named(header.start).unwrap();
+        let accept = states.named(header.accept).unwrap();
+        let reject = states.named(header.reject).unwrap();
+        Draft {
+            header,
+            states,
+            start,
+            accept,
+            reject,
+            steps: [None; 576],
+            lines: 1,
         }
     }
-    false
-}
 
-// Whether a state that neither accepts nor rejects lacks a column.
-fn state_lacks(draft: &Draft, states: u8, state: u8) -> bool
-    requires { (state < states) × (states ≤ 32) × (draft.now.header.letters ≤ 16) }
-    ensures gap { result ≡ true → (c : ℕ) × Gap draft.now states state c }
-    ensures full { result ≡ false → (c : ℕ) → Gap draft.now states state c → ⊥ }
-{
-    if state == draft.accept || state == draft.reject {
-        return false;
+    // A later line: a step of a state that neither accepts nor rejects.
+    pub(crate) fn enter(&mut self, row: Row, entry: Entry) -> Result<(), Refusal>
+        ensures { (h : SheetLine) (es : List SheetLine) → Drawn h es self.old → Says (letters_on (h ∷ es)) (line_of row.entry.line) entry →
+            MatchResult result
+            (λ _. (first_met (step_conditions (h ∷ es) (line_of row.entry.line)) ≡ None) × Drawn h (es ++ (line_of row.entry.line ∷ [])) self.new × (self.new.lines ≡ row.entry.number))
+            (λ e. told_on row.entry.number e (first_met (step_conditions (h ∷ es) (line_of row.entry.line)))) }
+    {
+        if self.header.halts(&entry.state) {
+            return Err(row.refused(Fault::HaltLine, 2));
+        }
+        let state = self
+            .states
+            .named(entry.state)
+            .ok_or(row.refused(Fault::TooManyNames, 2))?;
+        let to = self
+            .states
+            .named(entry.next)
+            .ok_or(row.refused(Fault::TooManyNames, 4))?;
+        if leads_out(self.header.letters, entry.column, entry.direction) {
+            return Err(row.refused(Fault::EndDirection, 5));
+        }
+        let place = place_of(state, entry.column);
+        if self.steps[place].is_some() {
+            return Err(row.refused(Fault::StepTwice, 3));
+        }
+        self.steps[place] = Some(Move {
+            to,
+            direction: entry.direction,
+        });
+        self.lines = row.number;
+        Ok(())
     }
-    row_lacks(&draft.steps, state, draft.header.letters + 2)
-}
 
-// Whether any of the states does.
-fn lacks(draft: &Draft, states: u8) -> bool
-    requires { (states ≤ 32) × (draft.now.header.letters ≤ 16) }
-    ensures gap { result ≡ true → (q : ℕ) × (c : ℕ) × Gap draft.now states q c }
-    ensures full { result ≡ false → (q c : ℕ) → Gap draft.now states q c → ⊥ }
-{
-    for state in 0..states {
-        if state_lacks(draft, states, state) {
-            return true;
+    // The step of a state at a column, if it was given.
+    fn step(&self, state: u8, column: u8) -> Option<Move>
+        requires { (state < 32) × (column < 18) }
+        ensures { result ≡ slice_index_or self.now.steps (state * 18 + column) None }
+    {
+        self.steps[place_of(state, column)]
+    }
+
+    // Whether the state accepts or rejects.
+    fn is_halt(&self, state: u8) -> bool
+        ensures { result ≡ (state == self.now.accept || state == self.now.reject) }
+    {
+        state == self.accept || state == self.reject
+    }
+
+    fn row_lacks(&self, state: u8) -> bool
+        requires { state < 32 }
+        ensures gap { result ≡ true → (c : ℕ) × (c < self.now.header.letters + 2) × (slice_index_or self.now.steps (state * 18 + c) None ≡ None) }
+        ensures full { result ≡ false → (c : ℕ) → c < self.now.header.letters + 2 → slice_index_or self.now.steps (state * 18 + c) None ≢ None }
+    {
+        (0..self.header.letters + 2).any(|column| self.step(state, column).is_none())
+    }
+
+    // Whether a state that neither accepts nor rejects lacks a column.
+    fn state_lacks(&self, states: u8, state: u8) -> bool
+        requires { (state < states) × (states ≤ 32) }
+        ensures gap { result ≡ true → (c : ℕ) × Gap self.now states state c }
+        ensures full { result ≡ false → (c : ℕ) → Gap self.now states state c → ⊥ }
+    {
+        !self.is_halt(state) && self.row_lacks(state)
+    }
+
+    // Whether any of the states does.
+    fn lacks(&self, states: u8) -> bool
+        requires { states ≤ 32 }
+        ensures gap { result ≡ true → (q : ℕ) × (c : ℕ) × Gap self.now states q c }
+        ensures full { result ≡ false → (q c : ℕ) → Gap self.now states q c → ⊥ }
+    {
+        (0..states).any(|state| self.state_lacks(states, state))
+    }
+
+    // A step of the rule: the accept and the reject state keep themselves, going R but at the right end.
+    fn settled(&self, state: u8, column: u8) -> Move
+        requires { (state < 32) × (column < 18) }
+        ensures { pair_of result ≡ settled self.now state column }
+    {
+        if !self.is_halt(state) {
+            return self.step(state, column).unwrap_or(Move {
+                to: 0,
+                direction: Direction::Left,
+            });
+        }
+        Move {
+            to: state,
+            direction: if column <= self.header.letters {
+                Direction::Right
+            } else {
+                Direction::Left
+            },
         }
     }
-    false
-}
 
-// A step of the rule: the accept and the reject state keep themselves, going R but at the right end.
-fn settle(draft: &Draft, state: u8, column: u8) -> (u8, u8)
-    requires { (state < 32) × (column < 18) × (draft.now.header.letters ≤ 16) }
-    ensures { result ≡ settled draft.now state column }
-{
-    if state == draft.accept || state == draft.reject {
-        let direction = if column <= draft.header.letters { 1 } else { 0 };
-        return (state, direction);
+    fn table(&self) -> [(u8, u8); 576]
+        ensures { (q c : ℕ) → q < 32 → c < 18 → at result q c ≡ settled self.now q c }
+    {
+        std::array::from_fn(|place| pair_of(self.settled((place / 18) as u8, (place % 18) as u8)))
     }
-    match draft.steps[state as usize * 18 + column as usize] {
-        Some(step) => step,
-        None => (0, 0),
-    }
-}
 
-fn table(draft: &Draft) -> [(u8, u8); 576]
-    requires { draft.now.header.letters ≤ 16 }
-    ensures { (q c : ℕ) → q < 32 → c < 18 → at result q c ≡ settled draft.now q c }
-{
-    let mut steps = [(0, 0); 576];
-    for i in 0..576usize {
-        steps[i] = settle(draft, (i / 18) as u8, (i % 18) as u8);
-    }
-    steps
-}
-
-// The rule, unless a state lacks a column.
-pub(crate) fn finish(draft: &Draft, states: u8) -> Option<StoredRule>
-    requires { Ready draft.now states }
-    ensures { (h : SheetLine) (es : List SheetLine) → Drawn h es draft.now → states ≡ length (names_of (h ∷ es)) →
-        MatchOption result (lacking (h ∷ es) ≡ true) (λ x. (lacking (h ∷ es) ≡ false) × (of_stored x ≡ rule_of (h ∷ es))) }
-{
-    if lacks(draft, states) {
-        return None;
-    }
-    let steps = table(draft);
-    let Some(rule) = StoredRule::from_steps(
-        states,
-        draft.header.letters,
-        draft.start,
-        draft.accept,
-        draft.reject,
-        &steps,
-    ) else {
+    // The rule, unless a state lacks a column.
+    pub(crate) fn finish(&self) -> Result<StoredRule, Refusal>
+        requires { Ready self.now }
+        ensures { (h : SheetLine) (es : List SheetLine) → Drawn h es self.now →
+            MatchResult result (λ x. (lacking (h ∷ es) ≡ false) × (of_stored x ≡ rule_of (h ∷ es))) (λ e. (lacking (h ∷ es) ≡ true) × (e ≡ refusal_at StepMissing (self.now.lines + 1) 0)) }
+    {
+        let states = self.states.count();
+        if self.lacks(states) {
+            return Err(Refusal {
+                fault: Fault::StepMissing,
+                line: self.lines + 1,
+                field: 0,
+            });
+        }
         // The lines before were not refused, so the rule keeps the laws.
-        unreachable()
-    };
-    Some(rule)
+        let numbers = Numbers {
+            states,
+            letters: self.header.letters,
+            start: self.start,
+            accept: self.accept,
+            reject: self.reject,
+        };
+        Ok(StoredRule::from_steps(numbers, &self.table()).unwrap())
+    }
 }

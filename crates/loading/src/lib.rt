@@ -9,17 +9,19 @@ ghost use Rattle.loading.specs.Telling.{told};
 
 mod draft;
 mod rows;
+mod states;
 mod words;
 
-use draft::{enter, finish, open};
+use draft::Draft;
 use refusals::{Fault, Refusal};
-use register::{Blank, Name, Register};
-use rows::Rows;
+use register::{Blank, Name};
+use rows::Row;
 use rules::StoredRule;
-use words::{read_entry, read_header};
-
-// The most bytes that a sheet has.
-pub const LONGEST: usize = 32_768;
+pub use sheets::LONGEST;
+use sheets::misformed;
+use states::States;
+use text::Lines;
+use words::{Entry, Header};
 
 // The rule that a sheet spells, or the first condition by which it is refused.
 pub fn read_sheet(sheet: &[u8]) -> Result<StoredRule, Refusal>
@@ -44,43 +46,30 @@ fn load(sheet: &[u8]) -> Result<StoredRule, Refusal>
     if sheet.len() > LONGEST {
         return Err(Refusal::unplaced(Fault::SheetTooLong));
     }
-    let mut rows = Rows::new(sheet);
-    let Some(first) = rows.next() else {
-        return Err(Refusal {
-            fault: Fault::LineForm,
-            line: 1,
-            field: 0,
-        });
-    };
-    let header = read_header(first)?;
+    let mut lines = Lines::new(sheet);
+    let line = lines.next().ok_or(misformed(1))?;
+    let header = Header::read(Row { number: 1, line })?;
     let mut places = [Name::blank(); 32];
-    let mut names = Register::new(&mut places);
-    let mut draft = open(&mut names, header);
-    while let Some(row) = rows.next() {
-        let entry = read_entry(row, draft.header.letters)?;
-        enter(&mut names, &mut draft, row, entry)?;
+    let mut draft = Draft::new(header, States::new(&mut places));
+    for (number, line) in (2..).zip(lines) {
+        let row = Row { number, line };
+        let entry = Entry::read(row, draft.header.letters)?;
+        draft.enter(row, entry)?;
     }
-    let Some(rule) = finish(&draft, names.len() as u8) else {
-        return Err(Refusal {
-            fault: Fault::StepMissing,
-            line: rows.count() + 1,
-            field: 0,
-        });
-    };
-    Ok(rule)
+    draft.finish()
 }
 
 #[cfg(test)]
 mod tests {
     use super::*;
-    use rules::Rule;
+    use rules::{Direction, Move, Rule};
     use std::test::Fail;
 
     // The number of the condition, its line and its field; none where the sheet is taken.
     fn refusal(sheet: &[u8]) -> Option<(u8, u32, u8)> {
         match read_sheet(sheet) {
             Ok(_) => None,
-            Err(refusal) => Some((refusal.fault.number(), refusal.line, refusal.field)),
+            Err(refusal) => Some((u8::from(refusal.fault), refusal.line, refusal.field)),
         }
     }
 
@@ -93,9 +82,10 @@ mod tests {
         };
         assert_eq!(rt; (rule.states(), rule.letters()), (3, 1));
         assert_eq!(rt; (rule.start(), rule.accept(), rule.reject()), (0, 1, 2));
-        assert_eq!(rt; rule.next(0, 0), Some((0, 0)));
-        assert_eq!(rt; rule.next(0, 1), Some((0, 1)));
-        assert_eq!(rt; rule.next(2, 2), Some((2, 0)));
+        let step = |to, direction| Some(Move { to, direction });
+        assert_eq!(rt; rule.next(0, 0), step(0, Direction::Left));
+        assert_eq!(rt; rule.next(0, 1), step(0, Direction::Right));
+        assert_eq!(rt; rule.next(2, 2), step(2, Direction::Left));
         assert_eq!(rt; refusal(b"rule\t16\tyes\tyes\tno\n"), None);
         Ok(())
     }

@@ -1,28 +1,15 @@
 // What the fields of a line say.
-ghost use Rattle.std.specs.Prelude.{◌≡◌, ◌≤◌, true, false, None, MatchResult};
-ghost use Rattle.text.specs.Left.{line_of};
+ghost use Rattle.std.specs.Prelude.{◌≡◌, ◌<◌, ◌≤◌, None, MatchResult};
+ghost use Rattle.std.specs.Option.{option_map};
 ghost use Rattle.text.specs.Numbers.{number as number_in};
-ghost use Rattle.refusals.specs.declared.fault.Fault.TheVariants.{NameLength};
-ghost use Rattle.register.specs.Names.{as_name};
-ghost use Rattle.spelling.specs.Words.{is_name, within, letters_of, column_of, direction_of};
-ghost use Rattle.spelling.specs.Conditions.{refusal_at, first_met, rule_conditions, word_conditions};
-ghost use Rattle.loading.specs.Fields.{Heads, Says};
-ghost use Rattle.loading.specs.Telling.{told_on};
+ghost use Rattle.rules.specs.Steps.{direction_number};
+ghost use Rattle.spelling.specs.Words.{within, letters_of, column_of, direction_of};
 
-use crate::rows::{Row, read_fields};
+use crate::rows::Row;
 use refusals::{Fault, Refusal};
-use register::{Key, Name};
+use register::Name;
+use rules::Direction;
 use text::read_number;
-
-// The name that a field of the line is.
-fn read_name(text: &[u8], row: Row, field: u8) -> Result<Name, Refusal>
-    ensures { MatchResult result (λ x. (is_name text.now ≡ true) × (x ≡ as_name text.now)) (λ e. (is_name text.now ≡ false) × (e ≡ refusal_at NameLength row.entry.number field)) }
-{
-    match Name::new(text) {
-        Some(name) => Ok(name),
-        None => Err(row.refused(Fault::NameLength, field)),
-    }
-}
 
 // The number that a text is, if it is from `low` up to, and without, `high`.
 fn read_between(text: &[u8], low: u8, high: u8) -> Option<u8>
@@ -48,22 +35,16 @@ fn read_column(text: &[u8], letters: u8) -> Option<u8>
     match text {
         [b'<'] => Some(letters),
         [b'>'] => Some(letters + 1),
-        [ones] => read_between(&[*ones], 0, letters),
-        [tens, ones] => read_between(&[*tens, *ones], 0, letters),
-        _ => None,
+        _ => read_between(text, 0, letters),
     }
 }
 
-// 0 for L and 1 for R.
-fn read_direction(text: &[u8]) -> Option<u8>
-    ensures { result ≡ direction_of text.now }
+fn read_direction(text: &[u8]) -> Option<Direction>
+    ensures { option_map direction_number result ≡ direction_of text.now }
 {
-    let [byte] = text else {
-        return None;
-    };
-    match *byte as char {
-        'L' => Some(0),
-        'R' => Some(1),
+    match text {
+        [b'L'] => Some(Direction::Left),
+        [b'R'] => Some(Direction::Right),
         _ => None,
     }
 }
@@ -75,27 +56,33 @@ pub struct Header {
     pub start: Name,
     pub accept: Name,
     pub reject: Name,
+    ghost few: { letters ≤ 16 },
 }
 
-pub(crate) fn read_header(row: Row) -> Result<Header, Refusal>
-    ensures { MatchResult result (λ x. (first_met (rule_conditions (line_of row.entry.line)) ≡ None) × Heads (line_of row.entry.line) x) (λ e. told_on row.entry.number e (first_met (rule_conditions (line_of row.entry.line)))) }
-{
-    let fields = read_fields(row, b"rule")?;
-    let start = read_name(fields.third, row, 3)?;
-    let accept = read_name(fields.fourth, row, 4)?;
-    let reject = read_name(fields.fifth, row, 5)?;
-    let Some(letters) = read_letters(fields.second) else {
-        return Err(row.refused(Fault::LetterOrColumn, 2));
-    };
-    if accept.same(&reject) {
-        return Err(row.refused(Fault::SameHalts, 5));
+impl Header {
+    ghost use Rattle.text.specs.Left.{line_of};
+    ghost use Rattle.spelling.specs.Conditions.{first_met, rule_conditions};
+    ghost use Rattle.loading.specs.Fields.{Heads};
+    ghost use Rattle.loading.specs.Telling.{told_on};
+
+    pub(crate) fn read(row: Row) -> Result<Header, Refusal>
+        ensures { MatchResult result (λ x. (first_met (rule_conditions (line_of row.entry.line)) ≡ None) × Heads (line_of row.entry.line) x) (λ e. told_on row.entry.number e (first_met (rule_conditions (line_of row.entry.line)))) }
+    {
+        let fields = row.fields(b"rule")?;
+        let start = row.name(fields.third, 3)?;
+        let accept = row.name(fields.fourth, 4)?;
+        let reject = row.name(fields.fifth, 5)?;
+        let letters = read_letters(fields.second).ok_or(row.refused(Fault::LetterOrColumn, 2))?;
+        if accept == reject {
+            return Err(row.refused(Fault::SameHalts, 5));
+        }
+        Ok(Header {
+            letters,
+            start,
+            accept,
+            reject,
+        })
     }
-    Ok(Header {
-        letters,
-        start,
-        accept,
-        reject,
-    })
 }
 
 // What a later line says.
@@ -104,26 +91,33 @@ pub struct Entry {
     pub state: Name,
     pub column: u8,
     pub next: Name,
-    pub direction: u8,
+    pub direction: Direction,
+    ghost low: { column < 18 },
 }
 
-pub(crate) fn read_entry(row: Row, letters: u8) -> Result<Entry, Refusal>
-    requires { letters ≤ 16 }
-    ensures { MatchResult result (λ x. (first_met (word_conditions letters (line_of row.entry.line)) ≡ None) × Says letters (line_of row.entry.line) x) (λ e. told_on row.entry.number e (first_met (word_conditions letters (line_of row.entry.line)))) }
-{
-    let fields = read_fields(row, b"at")?;
-    let state = read_name(fields.second, row, 2)?;
-    let next = read_name(fields.fourth, row, 4)?;
-    let Some(column) = read_column(fields.third, letters) else {
-        return Err(row.refused(Fault::LetterOrColumn, 3));
-    };
-    let Some(direction) = read_direction(fields.fifth) else {
-        return Err(row.refused(Fault::Direction, 5));
-    };
-    Ok(Entry {
-        state,
-        column,
-        next,
-        direction,
-    })
+impl Entry {
+    ghost use Rattle.text.specs.Left.{line_of};
+    ghost use Rattle.spelling.specs.Conditions.{first_met, word_conditions};
+    ghost use Rattle.loading.specs.Fields.{Says};
+    ghost use Rattle.loading.specs.Telling.{told_on};
+
+    pub(crate) fn read(row: Row, letters: u8) -> Result<Entry, Refusal>
+        requires { letters ≤ 16 }
+        ensures { MatchResult result (λ x. (first_met (word_conditions letters (line_of row.entry.line)) ≡ None) × Says letters (line_of row.entry.line) x) (λ e. told_on row.entry.number e (first_met (word_conditions letters (line_of row.entry.line)))) }
+    {
+        let fields = row.fields(b"at")?;
+        let state = row.name(fields.second, 2)?;
+        let next = row.name(fields.fourth, 4)?;
+        let column = read_column(fields.third, letters).ok_or(row.refused(
+            Fault::LetterOrColumn,
+            3,
+        ))?;
+        let direction = read_direction(fields.fifth).ok_or(row.refused(Fault::Direction, 5))?;
+        Ok(Entry {
+            state,
+            column,
+            next,
+            direction,
+        })
+    }
 }

@@ -2,7 +2,6 @@
 use Rattle.std.proofs.Common.{◌≡◌, ℕ, suc, ◌+◌, ◌≤◌, Bool, true, false, cond, eqb, ltb, List, [], ◌∷◌, ◌++◌, length, get_or, Ok, Err, codes, Result, sym, refl, ap, ◌∙◌, subst, inl, inr, append_assoc, arith}
 use Rattle.std.specs.Str.Iter.{LacksByte}
 use Rattle.std.specs.List.{join_with_byte, flat_map, AllByRecursion}
-use Rattle.std.specs.Str.{bytes_eq}
 use Rattle.std.proofs.lemmas.Slice.Eq.{bytes_eq-Decides}
 use Rattle.std.proofs.lemmas.Bool.{and_parts, both_ways, cases_Bool, cond-false, false≢true, eqb-true, le-ltb, ltb-true, ltb-false}
 use Rattle.text.specs.Parts.{parts, tab, line_feed}
@@ -12,9 +11,6 @@ use Rattle.text.proofs.Lining.{few_lines, lined, lines_cons, lines_joined}
 use Rattle.refusals.specs.declared.refusal.Refusal.{Refusal}
 use Rattle.sheets.specs.Form.{formed, checked, checked_lines, form_of, longest, too_long, misformed_at}
 use Rattle.sheets.specs.WellFormed.{Row, row_fields, row_text, Begins, Rows, word_after, WellFormed, Stops, Refused, by_length, empty, on_line, Judged}
-
-pub formed_by_word : (word : List ℕ) (l : Line) (a b c d e : List ℕ) (r : Bool) → parts tab l.text ≡ a ∷ b ∷ c ∷ d ∷ e ∷ [] → l.ended ≡ true → r ≡ bytes_eq a word → r ≡ formed word l
-formed_by_word word l a b c d e r h ended m = m ∙ rw (ended, h) refl
 
 -- a sheet whose first line is formed: the answer is that of the other lines
 pub after_first : (sheet : List ℕ) (l : Line) (ls : List Line) → length sheet ≤ longest → lines sheet ≡ l ∷ ls → formed (codes "rule") l ≡ true → (checked (codes "at") 2 ls ≡ form_of sheet) × (1 + length ls ≤ longest)

@@ -3,6 +3,7 @@ use Rattle.std.specs.Prelude.{ℕ, ◌+◌, Bool, cond, ◌&&◌, List, [], ◌�
 use Rattle.std.specs.Str.{bytes_eq}
 use Rattle.text.specs.Parts.{parts, tab}
 use Rattle.text.specs.Lines.{Line, lines}
+use Rattle.refusals.specs.declared.fault.Fault.{Fault}
 use Rattle.refusals.specs.declared.fault.Fault.TheVariants.{SheetTooLong, LineForm}
 use Rattle.refusals.specs.declared.refusal.Refusal.{Refusal}
 
@@ -14,11 +15,14 @@ longest = 32768
 abbrev pub formed : List ℕ → Line → Bool
 formed word l = l.ended && (length (parts tab l.text) == 5 && bytes_eq (slice_index_or (parts tab l.text) 0 []) word)
 
+abbrev pub refusal_at : Fault → ℕ → ℕ → Refusal
+refusal_at fault line field = record { fault = fault; line = line; field = field }
+
 abbrev pub too_long : Refusal
-too_long = record { fault = SheetTooLong; line = 0; field = 0 }
+too_long = refusal_at SheetTooLong 0 0
 
 abbrev pub misformed_at : ℕ → Refusal
-misformed_at n = record { fault = LineForm; line = n; field = 0 }
+misformed_at n = refusal_at LineForm n 0
 
 -- lines that begin with the word, the first of them number n
 abbrev pub checked : List ℕ → ℕ → List Line → Result (Unit {0}) Refusal

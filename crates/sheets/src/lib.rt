@@ -1,14 +1,16 @@
-// Sheets: rules as text. So far only the form of a sheet's lines is checked.
+// The form of a sheet: a rule as text, in lines of five fields.
 
 #![tactic(auto)]
 
 ghost use Rattle.std.specs.Prelude.{◌≡◌};
-ghost use Rattle.text.specs.Left.{line_of};
-ghost use Rattle.sheets.specs.Form.{formed, form_of, misformed_at};
+ghost use Rattle.sheets.specs.Form.{form_of, misformed_at};
 ghost use Rattle.sheets.specs.WellFormed.{Judged};
 
+mod fields;
+
+pub use fields::{Fields, read_fields};
 use refusals::{Fault, Refusal};
-use text::{Line, Lines, fields};
+use text::Lines;
 
 // The most bytes that a sheet has.
 pub const LONGEST: usize = 32_768;
@@ -25,63 +27,26 @@ fn check_lines(sheet: &[u8]) -> Result<(), Refusal>
     ensures { result ≡ form_of sheet.now }
 {
     if sheet.len() > LONGEST {
-        return Err(Refusal {
-            fault: Fault::SheetTooLong,
-            line: 0,
-            field: 0,
-        });
+        return Err(Refusal::unplaced(Fault::SheetTooLong));
     }
     let mut lines = Lines::new(sheet);
-    let mut number = 1;
-    let Some(first) = lines.next() else {
-        return Err(misformed(number));
-    };
-    if !has_form(first, b"rule") {
-        return Err(misformed(number));
-    }
-    for line in lines {
-        number += 1;
-        if !has_form(line, b"at") {
-            return Err(misformed(number));
-        }
+    let first = lines.next().ok_or(misformed(1))?;
+    read_fields(first, b"rule").ok_or(misformed(1))?;
+    for (number, line) in (2..).zip(lines) {
+        read_fields(line, b"at").ok_or(misformed(number))?;
     }
     Ok(())
 }
 
-fn misformed(number: u32) -> Refusal
-    ensures { result ≡ misformed_at number }
+// The refusal of a line that is not of its form.
+pub fn misformed(line: u32) -> Refusal
+    ensures { result ≡ misformed_at line }
 {
     Refusal {
         fault: Fault::LineForm,
-        line: number,
+        line,
         field: 0,
     }
-}
-
-// Whether a line is ended and has five fields, the first of them the word.
-fn has_form(line: Line, word: &[u8]) -> bool
-    ensures { result ≡ formed word.now (line_of line.entry) }
-{
-    let mut fields = fields(line.text);
-    let Some(first) = fields.next() else {
-        return false;
-    };
-    let Some(_) = fields.next() else {
-        return false;
-    };
-    let Some(_) = fields.next() else {
-        return false;
-    };
-    let Some(_) = fields.next() else {
-        return false;
-    };
-    let Some(_) = fields.next() else {
-        return false;
-    };
-    let None = fields.next() else {
-        return false;
-    };
-    line.ended && first == word
 }
 
 #[cfg(test)]
@@ -104,11 +69,7 @@ mod tests {
             assert_eq!(rt; check_form(sheet), Err(misformed(line)));
         }
         assert_eq!(rt; check_form(b"rule\t\t\t\t\nat\t\t\t\t\n"), Ok(()));
-        let long = Refusal {
-            fault: Fault::SheetTooLong,
-            line: 0,
-            field: 0,
-        };
+        let long = Refusal::unplaced(Fault::SheetTooLong);
         assert_eq!(rt; check_form(&[b'\n'; LONGEST + 1]), Err(long));
     }
 }

@@ -9,7 +9,8 @@ use Rattle.refusals.specs.declared.fault.Fault.{Fault}
 use Rattle.refusals.specs.declared.fault.Fault.TheVariants.{SheetTooLong, LineForm, StepMissing}
 use Rattle.refusals.specs.declared.refusal.Refusal.{Refusal}
 use Rattle.refusals.specs.Numbers.{number_of}
-use Rattle.spelling.specs.Conditions.{longest, Condition, first_met, conditions, lacks, refusal_at, or_else, refused_from, refused_lines, refused}
+use Rattle.sheets.specs.Form.{longest, refusal_at}
+use Rattle.spelling.specs.Conditions.{Condition, first_met, conditions, lacks, or_else, refused_from, refused_lines, refused}
 use Rattle.spelling.specs.Reading.{sheet_read, read_as, rule_of}
 use Rattle.spelling.specs.Judged.{Meets, too_long, empty, on_line, missing, Before, FirstMet}
 

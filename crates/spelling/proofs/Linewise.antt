@@ -10,7 +10,7 @@ use Rattle.text.proofs.Parting.{parted, parts_rejoined, lacks_parts, lacks_rejoi
 use Rattle.text.proofs.Lining.{lines_cons}
 use Rattle.spelling.specs.Words.{is_name, letters_of, column_of, direction_of}
 use Rattle.spelling.specs.Said.{field}
-use Rattle.spelling.specs.Conditions.{formed}
+use Rattle.sheets.specs.Form.{formed}
 use Rattle.spelling.specs.Spells.{Entry, Sheet, Name, line_text, column_text, column_number, way_text, way_number, entry_fields, entry_text, rule_fields}
 use Rattle.spelling.proofs.Wording.{letters_read, letters_written, plain_decimal, InRange, column_read, column_written, column_plain, way_read, way_written, way_plain}
 

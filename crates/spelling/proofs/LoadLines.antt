@@ -7,7 +7,8 @@ use Rattle.refusals.specs.declared.fault.Fault.TheVariants.{SheetTooLong, LineFo
 use Rattle.refusals.specs.declared.refusal.Refusal.{Refusal}
 use Rattle.two_way.specs.Automaton.{Automaton}
 use Rattle.spelling.specs.Said.{letters}
-use Rattle.spelling.specs.Conditions.{Condition, longest, refusal_at, first_met, conditions, word_conditions, step_conditions, lacks, or_else, refused_from, refused_lines, refused}
+use Rattle.sheets.specs.Form.{longest, refusal_at}
+use Rattle.spelling.specs.Conditions.{Condition, first_met, conditions, word_conditions, step_conditions, lacks, or_else, refused_from, refused_lines, refused}
 use Rattle.spelling.specs.Reading.{sheet_read, read_as, rule_of}
 use Rattle.spelling.proofs.LoadNames.{none_some}
 

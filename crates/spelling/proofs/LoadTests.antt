@@ -3,11 +3,11 @@ use Rattle.std.proofs.Common.{◌≡◌, Bool, true, false, cond, not, List, [],
 use Rattle.text.specs.Lines.{Line}
 use Rattle.refusals.specs.declared.fault.Fault.TheVariants.{LineForm, NameLength, LetterOrColumn, SameHalts, HaltLine, TooManyNames, EndDirection, StepTwice}
 use Rattle.spelling.specs.Said.{field, names, letters, halts, with_name, entry_for}
-use Rattle.spelling.specs.Conditions.{if_met, first_of, first_met, step_conditions, one_too_many, wrong_way, entry_column, entry_direction}
+use Rattle.spelling.specs.Conditions.{if_met, earliest, first_met, step_conditions, one_too_many, wrong_way, entry_column, entry_direction}
 
 -- of line 1 whose words are good
 pub rule_tests : (a b c d e f : Bool) → a ≡ true → b ≡ true → c ≡ true → d ≡ true → e ≡ true →
-    first_met ((LineForm, if_met 0 (not a)) ∷ (NameLength, first_of (if_met 3 (not b) ∷ if_met 4 (not c) ∷ if_met 5 (not d) ∷ [])) ∷ (LetterOrColumn, if_met 2 (not e)) ∷ (SameHalts, if_met 5 f) ∷ [])
+    first_met ((LineForm, if_met 0 (not a)) ∷ (NameLength, earliest (if_met 3 (not b) ∷ if_met 4 (not c) ∷ if_met 5 (not d) ∷ [])) ∷ (LetterOrColumn, if_met 2 (not e)) ∷ (SameHalts, if_met 5 f) ∷ [])
     ≡ cond f (Some (SameHalts, 5)) None
 rule_tests a b c d e true p q r s t = rw (p, q, r, s, t) refl
 rule_tests a b c d e false p q r s t = rw (p, q, r, s, t) refl
@@ -30,9 +30,9 @@ module _ (before : List Line) (l : Line) where
   twice = is_some (entry_for before (field 2 l) (entry_column before l))
 
   by_tests : (a b c d e : Bool) → halting ≡ a → no_state ≡ b → no_next ≡ c → off_end ≡ d → twice ≡ e
-      → first_met (step_conditions before l) ≡ first_met ((HaltLine, if_met 2 a) ∷ (TooManyNames, first_of (if_met 2 b ∷ if_met 4 c ∷ [])) ∷ (EndDirection, if_met 5 d) ∷ (StepTwice, if_met 3 e) ∷ [])
+      → first_met (step_conditions before l) ≡ first_met ((HaltLine, if_met 2 a) ∷ (TooManyNames, earliest (if_met 2 b ∷ if_met 4 c ∷ [])) ∷ (EndDirection, if_met 5 d) ∷ (StepTwice, if_met 3 e) ∷ [])
   by_tests a b c d e p q r s t =
-      (λ i. first_met ((HaltLine, if_met 2 (p i)) ∷ (TooManyNames, first_of (if_met 2 (q i) ∷ if_met 4 (r i) ∷ [])) ∷ (EndDirection, if_met 5 (s i)) ∷ (StepTwice, if_met 3 (t i)) ∷ []))
+      (λ i. first_met ((HaltLine, if_met 2 (p i)) ∷ (TooManyNames, earliest (if_met 2 (q i) ∷ if_met 4 (r i) ∷ [])) ∷ (EndDirection, if_met 5 (s i)) ∷ (StepTwice, if_met 3 (t i)) ∷ []))
 
   pub step_halts : halting ≡ true → first_met (step_conditions before l) ≡ Some (HaltLine, 2)
   step_halts p = by_tests true no_state no_next off_end twice p refl refl refl refl

@@ -10,7 +10,8 @@ use Rattle.refusals.specs.declared.fault.Fault.{Fault}
 use Rattle.refusals.specs.declared.refusal.Refusal.{Refusal}
 use Rattle.spelling.specs.Words.{is_name, letters_of, column_of, direction_of}
 use Rattle.spelling.specs.Said.{field, with_name, in_order, entry_names, names, letters, halts, is_for, found, entry_for}
-use Rattle.spelling.specs.Conditions.{Condition, if_met, first_of, first_met, formed, wrong_way, entry_column, entry_direction, one_too_many, rule_conditions, conditions, lacks, or_else, refused_from}
+use Rattle.sheets.specs.Form.{formed}
+use Rattle.spelling.specs.Conditions.{Condition, if_met, earliest, first_met, wrong_way, entry_column, entry_direction, one_too_many, rule_conditions, conditions, lacks, or_else, refused_from}
 use Rattle.spelling.specs.Spells.{Entry, said, column_number}
 use Rattle.spelling.proofs.Order.{order_more}
 use Rattle.spelling.proofs.Linewise.{Says}
@@ -115,12 +116,12 @@ met_none : (n : Fault) (f : ℕ) (b : Bool) (rs : List Condition) → first_met 
 met_none n f true rs e = absurd (let z : ◌≡◌ {A = ℕ} 0 1 = cc in omega arith)
 met_none n f false rs e = (refl, e)
 
-met_two : (n : Fault) (f g : ℕ) (a b : Bool) (rs : List Condition) → first_met ((n, first_of (if_met f a ∷ if_met g b ∷ [])) ∷ rs) ≡ None → (a ≡ false) × (b ≡ false) × (first_met rs ≡ None)
+met_two : (n : Fault) (f g : ℕ) (a b : Bool) (rs : List Condition) → first_met ((n, earliest (if_met f a ∷ if_met g b ∷ [])) ∷ rs) ≡ None → (a ≡ false) × (b ≡ false) × (first_met rs ≡ None)
 met_two n f g true b rs e = absurd (let z : ◌≡◌ {A = ℕ} 0 1 = cc in omega arith)
 met_two n f g false true rs e = absurd (let z : ◌≡◌ {A = ℕ} 0 1 = cc in omega arith)
 met_two n f g false false rs e = (refl, refl, e)
 
-met_three : (n : Fault) (f g h : ℕ) (a b c : Bool) (rs : List Condition) → first_met ((n, first_of (if_met f a ∷ if_met g b ∷ if_met h c ∷ [])) ∷ rs) ≡ None → (a ≡ false) × (b ≡ false) × (c ≡ false) × (first_met rs ≡ None)
+met_three : (n : Fault) (f g h : ℕ) (a b c : Bool) (rs : List Condition) → first_met ((n, earliest (if_met f a ∷ if_met g b ∷ if_met h c ∷ [])) ∷ rs) ≡ None → (a ≡ false) × (b ≡ false) × (c ≡ false) × (first_met rs ≡ None)
 met_three n f g h true b c rs e = absurd (let z : ◌≡◌ {A = ℕ} 0 1 = cc in omega arith)
 met_three n f g h false true c rs e = absurd (let z : ◌≡◌ {A = ℕ} 0 1 = cc in omega arith)
 met_three n f g h false false true rs e = absurd (let z : ◌≡◌ {A = ℕ} 0 1 = cc in omega arith)

@@ -13,7 +13,8 @@ use Rattle.refusals.specs.declared.refusal.Refusal.{Refusal}
 use Rattle.two_way.specs.Automaton.{Automaton, Lawful}
 use Rattle.spelling.specs.Words.{is_name, column_of}
 use Rattle.spelling.specs.Said.{field, with_name, in_order, letters}
-use Rattle.spelling.specs.Conditions.{longest, or_else, refused_from, refused_lines, refused}
+use Rattle.sheets.specs.Form.{longest}
+use Rattle.spelling.specs.Conditions.{or_else, refused_from, refused_lines, refused}
 use Rattle.spelling.specs.Reading.{rule_of, read_as, sheet_read}
 use Rattle.spelling.specs.Spells.{Entry, Sheet, Name, entry_fields, entry_text, rule_fields, sheet_text, said, Allowed, Proper, Spells}
 use Rattle.spelling.specs.Judged.{Spelled}

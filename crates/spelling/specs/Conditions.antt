@@ -2,17 +2,13 @@
 use Rattle.std.specs.Prelude.{ℕ, zero, suc, ◌+◌, Bool, false, cond, not, ◌&&◌, ◌||◌, List, [], ◌∷◌, ◌++◌, length, is_some, Some, None, codes, Option, ◌==◌, nat_lt}
 use Rattle.std.specs.Option.{unwrap_or}
 use Rattle.std.specs.Str.{bytes_eq}
-use Rattle.text.specs.Parts.{parts, tab}
 use Rattle.text.specs.Lines.{Line, lines}
 use Rattle.refusals.specs.declared.fault.Fault.{Fault}
 use Rattle.refusals.specs.declared.fault.Fault.TheVariants.{SheetTooLong, LineForm, NameLength, LetterOrColumn, Direction, SameHalts, HaltLine, TooManyNames, EndDirection, StepTwice, StepMissing}
 use Rattle.refusals.specs.declared.refusal.Refusal.{Refusal}
+use Rattle.sheets.specs.Form.{longest, formed, refusal_at}
 use Rattle.spelling.specs.Words.{is_name, letters_of, column_of, direction_of}
 use Rattle.spelling.specs.Said.{field, with_name, names, letters, halts, entry_for}
-
--- the most bytes that a sheet has
-abbrev pub longest : ℕ
-longest = 32768
 
 -- a condition, and the field that meets it, if one does: 0 for the whole line
 abbrev pub Condition : Type 0
@@ -22,20 +18,16 @@ abbrev pub if_met : ℕ → Bool → Option ℕ
 if_met f b = cond b (Some f) None
 
 -- the first of the fields
-abbrev pub first_of : List (Option ℕ) → Option ℕ
-first_of [] = None
-first_of (None ∷ os) = first_of os
-first_of (Some f ∷ os) = Some f
+abbrev pub earliest : List (Option ℕ) → Option ℕ
+earliest [] = None
+earliest (None ∷ os) = earliest os
+earliest (Some f ∷ os) = Some f
 
 -- the first of the conditions that is met, with its field
 abbrev pub first_met : List Condition → Option (Fault × ℕ)
 first_met [] = None
 first_met ((n, None) ∷ rs) = first_met rs
 first_met ((n, Some f) ∷ rs) = Some (n, f)
-
--- five fields, the first of them this word, and a line feed
-abbrev pub formed : List ℕ → Line → Bool
-formed word l = l.ended && (length (parts tab l.text) == 5 && bytes_eq (field 1 l) word)
 
 abbrev pub bad_name : Line → ℕ → Option ℕ
 bad_name l f = if_met f (not (is_name (field f l)))
@@ -44,7 +36,7 @@ bad_name l f = if_met f (not (is_name (field f l)))
 abbrev pub rule_conditions : Line → List Condition
 rule_conditions l =
     (LineForm, if_met 0 (not (formed (codes "rule") l)))
-    ∷ (NameLength, first_of (bad_name l 3 ∷ bad_name l 4 ∷ bad_name l 5 ∷ []))
+    ∷ (NameLength, earliest (bad_name l 3 ∷ bad_name l 4 ∷ bad_name l 5 ∷ []))
     ∷ (LetterOrColumn, if_met 2 (not (is_some (letters_of (field 2 l)))))
     ∷ (SameHalts, if_met 5 (bytes_eq (field 4 l) (field 5 l)))
     ∷ []
@@ -67,7 +59,7 @@ one_too_many ns x = nat_lt 32 (length (with_name ns x))
 abbrev pub word_conditions : ℕ → Line → List Condition
 word_conditions m l =
     (LineForm, if_met 0 (not (formed (codes "at") l)))
-    ∷ (NameLength, first_of (bad_name l 2 ∷ bad_name l 4 ∷ []))
+    ∷ (NameLength, earliest (bad_name l 2 ∷ bad_name l 4 ∷ []))
     ∷ (LetterOrColumn, if_met 3 (not (is_some (column_of m (field 3 l)))))
     ∷ (Direction, if_met 5 (not (is_some (direction_of (field 5 l)))))
     ∷ []
@@ -76,7 +68,7 @@ word_conditions m l =
 abbrev pub step_conditions : List Line → Line → List Condition
 step_conditions before l =
     (HaltLine, if_met 2 (halts before (field 2 l)))
-    ∷ (TooManyNames, first_of (if_met 2 (one_too_many (names before) (field 2 l)) ∷ if_met 4 (one_too_many (with_name (names before) (field 2 l)) (field 4 l)) ∷ []))
+    ∷ (TooManyNames, earliest (if_met 2 (one_too_many (names before) (field 2 l)) ∷ if_met 4 (one_too_many (with_name (names before) (field 2 l)) (field 4 l)) ∷ []))
     ∷ (EndDirection, if_met 5 (wrong_way (letters before) (entry_column before l) (entry_direction l)))
     ∷ (StepTwice, if_met 3 (is_some (entry_for before (field 2 l) (entry_column before l))))
     ∷ []
@@ -98,9 +90,6 @@ any_lacks ls (x ∷ xs) = (not (halts ls x) && lacks_below ls x (letters ls + 2)
 -- a state other than the accept and the reject state lacks a column
 abbrev pub lacks : List Line → Bool
 lacks ls = any_lacks ls (names ls)
-
-abbrev pub refusal_at : Fault → ℕ → ℕ → Refusal
-refusal_at fault line field = record { fault = fault; line = line; field = field }
 
 abbrev pub or_else : Option (Fault × ℕ) → ℕ → Option Refusal → Option Refusal
 or_else None n s = s

@@ -7,7 +7,8 @@ use Rattle.refusals.specs.declared.fault.Fault.TheVariants.{SheetTooLong, LineFo
 use Rattle.refusals.specs.declared.refusal.Refusal.{Refusal}
 use Rattle.refusals.specs.Numbers.{number_of}
 use Rattle.two_way.specs.Automaton.{Automaton}
-use Rattle.spelling.specs.Conditions.{longest, refusal_at, conditions, lacks}
+use Rattle.sheets.specs.Form.{longest, refusal_at}
+use Rattle.spelling.specs.Conditions.{conditions, lacks}
 use Rattle.spelling.specs.Spells.{Spells}
 
 -- the condition is met at this line and field

@@ -5,7 +5,7 @@ use Rattle.std.specs.List.{join_with_byte, flat_map, AllByRecursion, slice_get}
 use Rattle.two_way.specs.Automaton.{Automaton, Keeps, Way, L, R}
 use Rattle.text.specs.Parts.{tab, line_feed}
 use Rattle.spelling.specs.Said.{in_order}
-use Rattle.spelling.specs.Conditions.{longest}
+use Rattle.sheets.specs.Form.{longest}
 
 pub data Column : Type 0 where
   left_end right_end : Column

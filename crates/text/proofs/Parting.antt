@@ -1,6 +1,5 @@
 -- A text is its parts joined, and is parted in one way only.
-use Rattle.std.proofs.Common.{◌≡◌, ℕ, zero, suc, ◌+◌, ◌-◌, ◌<◌, ◌≤◌, Bool, true, false, cond, eqb, List, [], ◌∷◌, ◌++◌, length, get_or, take, drop, sym, refl, ap, ◌∙◌, inl, inr, suc-le-suc, le_of_suc-le-suc, not-suc-le-zero, zero-lt-suc, add-one, arith, take_all}
-use native.Mathlib.Nat.{sub-zero}
+use Rattle.std.proofs.Common.{◌≡◌, ℕ, zero, suc, ◌+◌, ◌-◌, ◌<◌, Bool, true, false, cond, eqb, List, [], ◌∷◌, ◌++◌, length, get_or, take, drop, sym, refl, ap, ◌∙◌, inl, inr, suc-le-suc, le_of_suc-le-suc, not-suc-le-zero, zero-lt-suc, add-one, arith}
 use Rattle.std.specs.Str.Iter.{LacksByte}
 use Rattle.std.specs.List.{join_with_byte, AllByRecursion}
 use Rattle.std.proofs.lemmas.List.{take_rest, nil_from_length}
@@ -82,15 +81,11 @@ lacks_take x (b ∷ bs) zero f k h e = not-suc-le-zero h
 lacks_take x (b ∷ bs) (suc n) f zero h e = f 0 (zero-lt-suc n) e
 lacks_take x (b ∷ bs) (suc n) f (suc k) h e = lacks_take x bs n (λ j l. f (suc j) (suc-le-suc l)) k (le_of_suc-le-suc h) e
 
-pub first_part : (x : ℕ) (bs : List ℕ) (n : ℕ) → n < length bs → ((k : ℕ) → k < n → get_or bs k 0 ≡ x → ⊥) → get_or bs n 0 ≡ x → parts x bs ≡ take (n - 0) bs ∷ parts x (take (length bs - (n + 1)) (drop (n + 1) bs))
+pub first_part : (x : ℕ) (bs : List ℕ) (n : ℕ) → n < length bs → ((k : ℕ) → k < n → get_or bs k 0 ≡ x → ⊥) → get_or bs n 0 ≡ x → parts x bs ≡ take n bs ∷ parts x (take (length bs - (n + 1)) (drop (n + 1) bs))
 first_part x bs n h before found =
     ap (parts x) (split_at x bs n h found)
     ∙ parts_cons x (take n bs) (drop (suc n) bs) (lacks_take x bs n before)
-    ∙ rw (take_rest bs (n + 1), sub-zero, add-one)
-
-pub last_part : (x : ℕ) (bs : List ℕ) (n : ℕ) → length bs ≤ n → ((k : ℕ) → k < n → get_or bs k 0 ≡ x → ⊥) → parts x bs ≡ take (n - 0) bs ∷ []
-last_part x bs n h before =
-    rw (sub-zero, take_all n bs h) (parts_one x bs (λ k l. before k (omega arith)))
+    ∙ rw (take_rest bs (n + 1), add-one)
 
 pub some_parts : (x : ℕ) (bs : List ℕ) → eqb (length (parts x bs)) 0 ≡ false
 some_parts x bs = ne_eqb _ _ (λ e. (parted x bs).some (nil_from_length (parts x bs) e))

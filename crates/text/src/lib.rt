@@ -9,7 +9,7 @@ mod parts;
 
 pub use lines::{Line, Lines};
 pub use numbers::read_number;
-pub use output::{write_bytes, write_long_number, write_number};
+pub use output::{write_bytes, write_number};
 pub use parts::{Parts, fields};
 
 #[cfg(test)]
@@ -27,9 +27,9 @@ mod tests {
         assert_eq!(rt; read_number(b"", 16), None);
         assert_eq!(rt; read_number(b"4294967296", u32::MAX), None);
         let mut out = [b'.'; 6];
-        assert_eq!(rt; write_number(4096, &mut out), Some(4));
+        assert_eq!(rt; write_number(4096u32, &mut out), Some(4));
         assert!(rt; out == *b"4096..");
-        assert_eq!(rt; write_number(1_000_000, &mut out), None);
+        assert_eq!(rt; write_number(1_000_000u64, &mut out), None);
         assert_eq!(rt; write_bytes(b"ab", &mut out), Some(2));
         assert!(rt; out == *b"ab96..");
     }

@@ -1,7 +1,6 @@
 // Bytes and decimal numbers, written to the front of a slice.
-ghost use Rattle.std.specs.Prelude.{◌≡◌, ℕ, ◌≤◌, List, ◌++◌, length, take, drop, Some, decimal};
-ghost use Rattle.text.specs.Numbers.{number};
-ghost use Rattle.text.specs.Output.{room, put};
+ghost use Rattle.std.specs.Prelude.{◌≡◌, ℕ, ◌≤◌, ◌++◌, length, drop, decimal};
+ghost use Rattle.text.specs.Output.{room, put, Written};
 
 // How many bytes were written; none, and nothing is, where they are too many.
 pub fn write_bytes(bytes: &[u8], out: &mut [u8]) -> Option<usize>
@@ -15,21 +14,11 @@ pub fn write_bytes(bytes: &[u8], out: &mut [u8]) -> Option<usize>
     Some(bytes.len())
 }
 
-// How many digits were written; none, and nothing is, where they are too many.
-pub fn write_number(n: u32, out: &mut [u8]) -> Option<usize>
-    ensures answer { result ≡ room (decimal n) out.old }
-    ensures after { out.new ≡ put (decimal n) out.old }
-    ensures read_back { (k most : ℕ) → result ≡ Some k → n ≤ most → number most (take k out.new) ≡ Some n }
+// How many digits of a number were written; none, and nothing is, where they are too many.
+pub fn write_number<N: Into<u64>>(n: N, out: &mut [u8]) -> Option<usize>
+    ensures { (k : ℕ) × N.converts n k × Written k out.old result out.new }
 {
-    write_long_number(n.into(), out)
-}
-
-// The same of a number of 64 bits.
-pub fn write_long_number(n: u64, out: &mut [u8]) -> Option<usize>
-    ensures answer { result ≡ room (decimal n) out.old }
-    ensures after { out.new ≡ put (decimal n) out.old }
-    ensures read_back { (k most : ℕ) → result ≡ Some k → n ≤ most → number most (take k out.new) ≡ Some n }
-{
+    let n = n.into();
     if digits(n) > out.len() {
         return None;
     }

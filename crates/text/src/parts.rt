@@ -3,6 +3,7 @@ ghost use Rattle.std.specs.Prelude.{◌≡◌, ℕ, ◌<◌, ◌≤◌, List, []
 ghost use Rattle.text.specs.Parts.{parts, PartedOnly, tab};
 ghost use Rattle.text.specs.Left.{parts_left};
 ghost use Rattle.std.specs.Iterator.{at_most};
+ghost use Rattle.std.specs.Str.Iter.{LacksByte};
 
 // An iterator over the parts; a text without a separator is one part, the empty text too.
 #[derive(Clone, Copy)]
@@ -40,13 +41,12 @@ impl<'a> Iterator for Parts<'a> {
 
     fn next(&mut self) -> Option<&'a [u8]> {
         let rest = self.rest?;
-        let at = place_of(self.separator, rest);
-        self.rest = if at < rest.len() {
-            Some(&rest[at + 1..])
-        } else {
-            None
+        let Some(at) = place_of(self.separator, rest) else {
+            self.rest = None;
+            return Some(rest);
         };
-        Some(&rest[0..at])
+        self.rest = Some(&rest[at + 1..]);
+        Some(&rest[..at])
     }
 }
 
@@ -58,16 +58,9 @@ pub fn fields<'a>(line: &'a [u8]) -> Parts<'a>
     Parts::new(line, b'\t')
 }
 
-// The place of the first such byte, or the length where there is none.
-fn place_of(byte: u8, text: &[u8]) -> usize
-    ensures within { result ≤ length text.now }
-    ensures before { (k : ℕ) → k < result → slice_index text.now k ≢ byte }
-    ensures found { result < length text.now → slice_index text.now result ≡ byte }
+// The place of the first such byte, if there is one.
+fn place_of(byte: u8, text: &[u8]) -> Option<usize>
+    ensures { MatchOption result (LacksByte byte text.now) (λ i. (i < length text.now) × (slice_index text.now i ≡ byte) × ((k : ℕ) → k < i → slice_index text.now k ≢ byte)) }
 {
-    for (i, b) in text.iter().enumerate() {
-        if *b == byte {
-            return i;
-        }
-    }
-    text.len()
+    text.iter().position(|b| *b == byte)
 }
