@@ -1,12 +1,11 @@
 -- A turn of an ask.
-use Rattle.std.proofs.Common.{◌≡◌, ℕ, zero, suc, ◌+◌, ◌<◌, ◌≤◌, Bool, true, false, cond, ◌≢◌, ◌&&◌, ltb, eqb, List, [], ◌∷◌, ◌++◌, map, length, get_or, take, drop, is_some, Some, None, Err, Option, sym, refl, ap, ◌∙◌, add-one, arith, le-ltb, ne_eqb, get_or-take, length-take-le}
-use native.Mathlib.Decide.{ℕ_discrete}
+use Rattle.std.proofs.Common.{◌≡◌, ℕ, zero, suc, ◌+◌, ◌<◌, ◌≤◌, Bool, true, false, cond, ◌≢◌, ◌&&◌, ltb, eqb, List, [], ◌∷◌, map, length, get_or, take, drop, is_some, Some, None, Err, Option, sym, refl, ap, ◌∙◌, add-one, arith, le-ltb, lt-ltb, ne_eqb, get_or-take, length-take-le}
+use native.Mathlib.Decide.{dec_lt, ℕ_discrete}
 use Rattle.std.specs.Option.{ok_or}
-use Rattle.std.specs.List.{range_with_len, list_all}
-use Rattle.std.proofs.lemmas.List.{map-id, drop_more}
+use Rattle.std.specs.List.{list_all}
+use Rattle.std.proofs.lemmas.List.{drop_more, get_or_past, take_all}
 use Rattle.std.proofs.Math.Bool.{and-true}
-use Rattle.std.proofs.lemmas.List.FromFn.{map-range_with_len_more}
-use Rattle.std.proofs.lemmas.List.Folds.{list_all-append}
+use Rattle.std.proofs.lemmas.List.Folds.{list_all_more}
 use Rattle.std.proofs.lemmas.Bool.{and_parts, ltb-true, ltb-false, eqb-false}
 use Rattle.two_way.specs.declared.Verdict.{Verdict}
 use Rattle.two_way.specs.Verdicts.{named}
@@ -17,14 +16,20 @@ use Rattle.dfa.specs.Rows.{blank_row}
 use Rattle.dfa.specs.Shelved.{unshelved}
 use Rattle.dfa.specs.Asked.{leads, verdict_in, row_at, next_row, followed, asked}
 
--- a test of each letter below m, as a range gives them
-pub leads_all : (m n : ℕ) (d : DfaRow) → list_all (λ a. ltb (get_or d.cells a 0) n) (range_with_len 0 m) ≡ leads m n d
-leads_all zero n d = refl
-leads_all (suc m) n d =
-    let p = λ (a : ℕ). ltb (get_or d.cells a 0) n in
-    let push : range_with_len 0 (suc m) ≡ range_with_len 0 m ++ (m ∷ []) =
-    ap (range_with_len 0) (sym (add-one m)) ∙ sym (map-id (range_with_len 0 (m + 1))) ∙ map-range_with_len_more (λ x. x) 0 m m (omega arith) ∙ ap (λ xs. xs ++ (m ∷ [])) (map-id (range_with_len 0 m)) in
-    ap (list_all p) push ∙ list_all-append p (range_with_len 0 m) (m ∷ []) ∙ (λ i. leads_all m n d i && and-true (p m) i)
+-- a test of the first m cells; there are sixteen, and past them a letter leads to row 0
+pub leads_all : (m n : ℕ) (d : DfaRow) → 0 < n → list_all (λ k. ltb k n) (take m d.cells) ≡ leads m n d
+leads_all zero n d h = refl
+leads_all (suc m) n d h = go (dec_lt m (length d.cells)) (leads_all m n d h)
+  where
+    p : ℕ → Bool
+    p = λ k. ltb k n
+
+    go : Dec (m < length d.cells) → list_all (λ k. ltb k n) (take m d.cells) ≡ leads m n d → list_all (λ k. ltb k n) (take (suc m) d.cells) ≡ leads (suc m) n d
+    go (yes l) ih = ap (λ j. list_all (λ k. ltb k n) (take j d.cells)) (sym (add-one m)) ∙ list_all_more (λ k. ltb k n) d.cells m 0 l ∙ ap (λ b. b && ltb (get_or d.cells m 0) n) ih
+    go (no l) ih =
+        let past : get_or d.cells m 0 ≡ 0 = get_or_past d.cells m 0 (omega arith) in
+        let all = ap (list_all (λ k. ltb k n)) (take_all (suc m) d.cells (omega arith) ∙ sym (take_all m d.cells (omega arith))) in
+        all ∙ ih ∙ sym (and-true (leads m n d)) ∙ ap (λ b. leads m n d && b) (sym (ap (λ k. ltb k n) past ∙ lt-ltb 0 n h))
 
 -- each of the first m cells is a row in use
 pub leads_at : (m a n : ℕ) (d : DfaRow) → a < m → leads m n d ≡ true → get_or d.cells a 0 < n

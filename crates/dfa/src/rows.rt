@@ -1,5 +1,5 @@
 // A row: for each letter the row that it leads to, and the verdict of the words that end here.
-ghost use Rattle.std.specs.Prelude.{◌≡◌, slice_index};
+ghost use Rattle.std.specs.Prelude.{◌≡◌, take, slice_index};
 ghost use Rattle.dfa.specs.Rows.{row_of, blank_row};
 
 #[repr(C)]
@@ -31,6 +31,13 @@ impl DfaRow {
         ensures { result ≡ slice_index self.now.cells letter }
     {
         self.cells.get(letter).copied().unwrap_or(0)
+    }
+
+    // The cells of the first letters; all sixteen where the letters are more.
+    pub(crate) fn first_cells(&self, letters: u8) -> &[u16]
+        ensures { result.now ≡ take letters self.now.cells }
+    {
+        &self.cells[..self.cells.len().min(letters as usize)]
     }
 
     // The number of the verdict: 1 accepts, 2 rejects, 3 loops; any other is damage.

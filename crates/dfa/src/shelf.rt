@@ -70,10 +70,12 @@ impl<'a> Shelf<'a> {
         Some(row.cell(letter as usize) as usize)
     }
 
-    // Whether the cell of each letter is a row of the shelf.
+    // Whether the cell of each letter is a row of the shelf. A row has sixteen cells, and past them a letter leads to row 0.
     fn leads_on(&self, row: &DfaRow) -> bool
         ensures { result ≡ leads self.now.letters (length self.now.rows.now) row.now }
     {
-        (0..self.letters).all(|letter| (row.cell(letter as usize) as usize) < self.rows.len())
+        row.first_cells(self.letters)
+            .iter()
+            .all(|cell| (*cell as usize) < self.rows.len())
     }
 }
