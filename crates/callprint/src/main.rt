@@ -52,8 +52,8 @@ impl Desk {
         let lent = places.min(PLACES);
         let answer = self.engine.perform(
             call,
-            &mut self.tables[..lent],
-            &mut self.dfa[..lent],
+            &mut self.tables[0..lent],
+            &mut self.dfa[0..lent],
             marks,
         );
         println!(rt; "{}", Told(answer))?;

@@ -62,7 +62,10 @@ impl fmt::Display for Tally {
         let (rules, built, counted) = (self.rules, self.built, self.counted);
         let (walks, asks, mismatches) = (self.walks, self.asks, self.mismatches);
         write!(f, "rules\t{rules}\nbuilt\t{built}\ncounted\t{counted}\n")?;
-        write!(f, "walks\t{walks}\nasks\t{asks}\nmismatches\t{mismatches}\n")
+        write!(
+            f,
+            "walks\t{walks}\nasks\t{asks}\nmismatches\t{mismatches}\n"
+        )
     }
 }
 

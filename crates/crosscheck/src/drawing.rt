@@ -179,12 +179,22 @@ pub(crate) fn in_turn(first: &Drawing, second: &Drawing) -> Drawing {
         }
         for state in 0..second.states {
             let step = second.step(state, column);
-            drawing.put(shift.saturating_add(state), column, shift.saturating_add(step.to), step.way);
+            drawing.put(
+                shift.saturating_add(state),
+                column,
+                shift.saturating_add(step.to),
+                step.way,
+            );
         }
         drawing.put(first.accept, column, first.accept, Way::Back);
         drawing.put(first.reject, column, reject, drawing.onward(column));
     }
     let step = second.step(second.start, second.letters);
-    drawing.put(first.accept, first.letters, shift.saturating_add(step.to), step.way);
+    drawing.put(
+        first.accept,
+        first.letters,
+        shift.saturating_add(step.to),
+        step.way,
+    );
     drawing
 }

@@ -26,15 +26,13 @@ fn stored(drawing: &Drawing) -> anyhow::Result<StoredRule> {
         accept: drawing.accept,
         reject: drawing.reject,
     };
-    StoredRule::from_steps(numbers, &drawing.numbered()).ok_or(anyhow!("a drawn rule is not lawful"))
+    StoredRule::from_steps(numbers, &drawing.numbered()).ok_or(anyhow!(
+        "a drawn rule is not lawful"
+    ))
 }
 
 // A distance rule of either side, with the same numbers.
-fn distance(
-    random: &mut Random,
-    letters: u8,
-    most: u8,
-) -> anyhow::Result<(DistanceRule, Drawing)> {
+fn distance(random: &mut Random, letters: u8, most: u8) -> anyhow::Result<(DistanceRule, Drawing)> {
     let distance = 1 + random.below(most.clamp(1, 20));
     let mut set = 0;
     for letter in 0..letters.min(16) {

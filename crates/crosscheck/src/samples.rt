@@ -74,30 +74,36 @@ fn of_distance(heap: Global) -> anyhow::Result<bool> {
         (2, 3, Verdict::Accepts),
         (1, 0, Verdict::Accepts),
     ];
-    Ok(builds(heap, back(1)?, 16, 2, &one)?
-        && builds(heap, back(2)?, 4, 4, &two)?
-        && overflows(heap, back(2)?, 3)?
-        && walks(back(1)?, &[0], Verdict::Accepts, 4)
-        && walks(back(1)?, &[], Verdict::Rejects, 3))
+    Ok(
+        builds(heap, back(1)?, 16, 2, &one)?
+            && builds(heap, back(2)?, 4, 4, &two)?
+            && overflows(heap, back(2)?, 3)?
+            && walks(back(1)?, &[0], Verdict::Accepts, 4)
+            && walks(back(1)?, &[], Verdict::Rejects, 3),
+    )
 }
 
 fn of_sheets(heap: Global) -> anyhow::Result<bool> {
     let restless = read_sheet(RESTLESS)?;
     let content = read_sheet(CONTENT)?;
-    Ok(lists(heap, RESTLESS, RESTLESS_LISTING)?
-        && walks(restless, &[], Verdict::Loops, 2)
-        && walks(restless, &[0], Verdict::Loops, 3)
-        && builds(heap, content, 16, 1, &[(0, 0, Verdict::Accepts)])?
-        && walks(content, &[], Verdict::Accepts, 0))
+    Ok(
+        lists(heap, RESTLESS, RESTLESS_LISTING)?
+            && walks(restless, &[], Verdict::Loops, 2)
+            && walks(restless, &[0], Verdict::Loops, 3)
+            && builds(heap, content, 16, 1, &[(0, 0, Verdict::Accepts)])?
+            && walks(content, &[], Verdict::Accepts, 0),
+    )
 }
 
 fn of_pairs() -> anyhow::Result<bool> {
     let misfit = PairRule::new(back(13)?, back(14)?);
     let fit = PairRule::new(back(13)?, back(13)?);
     let twice = PairRule::new(back(1)?, back(1)?);
-    Ok(walks(twice, &[0], Verdict::Accepts, 10)
-        && fit.check() == Ok(())
-        && misfit.check() == Err(Refusal::unplaced(Fault::PairMisfit)))
+    Ok(
+        walks(twice, &[0], Verdict::Accepts, 10)
+            && fit.check() == Ok(())
+            && misfit.check() == Err(Refusal::unplaced(Fault::PairMisfit)),
+    )
 }
 
 // Twelve marks back need all the rows that there can be.

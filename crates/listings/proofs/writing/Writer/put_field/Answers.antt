@@ -14,4 +14,7 @@ pub unwrap-digits-requires : goal.unwrap-digits-requires
 unwrap-digits-requires c = ap is_some ((written (goal.at.unwrap-digits-requires c).After-write_number).answer ∙ cond-true _ _ _ (few_digits c.args.n (omega arith)))
 
 pub returns-clause-placed : goal.returns-clause-placed
-returns-clause-placed c = ?
+returns-clause-placed c =
+    let w = written (goal.at.returns-clause-placed c).After-write_number in
+    let e = field_text c.args.n c.unwrap-digits.result (replicate 20 tab) c.write_number.new.out c.write_number.result (omega arith) refl w.answer c.unwrap-digits.ensures w.after in
+    subst (λ (t : List ℕ). Placed c.args.self.now t c.put.result c.put.new.self) e c.put.ensures.placed
