@@ -55,10 +55,7 @@ fn lists(heap: Global, sheet: &[u8], listing: &[u8]) -> Result<bool, AllocError>
     let mut memory = Memory::new(heap, 256)?;
     let mut out = vec![in heap; 0; 1024]?;
     let folded = fold_sheet(sheet, &mut memory.tables, &mut memory.dfa, &mut out);
-    Ok(match folded {
-        Ok(length) => out.get(..length) == Some(listing),
-        Err(_) => false,
-    })
+    Ok(folded.is_ok_and(|length| out.get(..length) == Some(listing)))
 }
 
 // A rule that looks so many marks back, of 2 letters, for the letter 0.

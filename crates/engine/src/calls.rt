@@ -24,7 +24,7 @@ pub struct Engine<R, L> {
     rows: usize,
 }
 
-// A call, without the memory and the marks that it is handed.
+// A call, without the memory and the marks that it is handed. Cases, not closures: the law is over lists of them.
 #[derive(Clone, Copy, Drop)]
 pub enum Call<R> {
     Change(R),
@@ -63,6 +63,7 @@ impl<R: Rule, L: Alphabet> Engine<R, L> {
     }
 
     // Writes the rows of the rule into the memory, and answers how many they are.
+    // Two slices, not a struct of them: each call would then have to promise too that it holds the same loans after.
     pub fn build(
         &mut self,
         tables: &mut [CrossingTable],
@@ -114,7 +115,7 @@ impl<R: Rule, L: Alphabet> Engine<R, L> {
         self.dispatch(call, tables, dfa, marks)
     }
 
-    // The call itself.
+    // The call itself, apart from `perform`: the law follows from the outcome, whichever call it is.
     fn dispatch(
         &mut self,
         call: Call<R>,

@@ -2,6 +2,8 @@
 
 #![tactic(auto)]
 
+ghost use Rattle.std.specs.Prelude.{◌≡◌, ◌↔◌, IsTrue};
+
 mod fault;
 mod refusal;
 
@@ -12,6 +14,18 @@ pub use refusal::Refusal;
 mod tests {
     use super::*;
     use std::test::Fail;
+
+    fn same(a: Fault, b: Fault) -> bool
+        ensures { IsTrue result ↔ (a ≡ b) }
+    {
+        a == b
+    }
+
+    #[test]
+    fn faults_are_equal_where_they_are_the_same(rt: HostRuntime) {
+        assert!(rt; same(Fault::LineForm, Fault::LineForm));
+        assert!(rt; !same(Fault::LineForm, Fault::NameLength));
+    }
 
     #[test]
     fn a_refusal_is_told_by_a_line(rt: HostRuntime) -> Result<(), Fail> {

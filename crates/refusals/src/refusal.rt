@@ -7,7 +7,7 @@ use std::alloc::{AllocError, Global};
 use std::error::Error;
 use std::fmt;
 
-// The condition that was met, and its line and field, counted from 1; 0 where there is none.
+// The condition that was met, and its line and field, counted from 1; 0 where there is none, as the line of text and C are told.
 #[derive(Clone, Copy, PartialEq, Debug)]
 pub struct Refusal {
     pub fault: Fault,

@@ -7,6 +7,7 @@ pub trait Key: Eq + Copy {
 }
 
 // A kind of key that has a blank, which is what a cleared place has.
+// Not `Default`, which says what a value may be: what a cleared register has is said whole.
 pub trait Blank: Copy {
     ghost blank: { Self };
 

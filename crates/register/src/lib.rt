@@ -16,7 +16,7 @@ pub use keys::{Blank, Key};
 pub use names::Name;
 pub use tables::{CrossingTable, NEVER};
 
-// The first `count` places have the keys; what the others have is no key.
+// The first `count` places have the keys; what the others have is no key. The places are lent, and no heap is asked for, so no Vec or map.
 #[derive(Drop)]
 pub struct Register<'a, K> {
     keys: &'a mut [K],

@@ -12,7 +12,7 @@ use crate::keys::{Blank, Key};
 
 const LONGEST: usize = 16;
 
-// A name of 1 to 16 bytes. All bytes after the last are 0, so that equal names have equal contents.
+// A name of 1 to 16 bytes. All bytes after the last are 0, so that equal names have equal contents. No String: names need no heap.
 #[derive(Clone, Copy, PartialEq, Eq)]
 pub struct Name {
     len: u8,

@@ -9,6 +9,7 @@ ghost use Rattle.register.specs.CrossingTableKeyLemmas.{equal};
 use crate::keys::{Blank, Key};
 
 // The byte of a rule that never comes out of the word; it stands at states that the rule has not, too.
+// A byte, not a None: a table is 33 bytes of memory that C lends.
 pub const NEVER: u8 = 255;
 
 // Where a rule comes out of a word: the state that it is in then, for each state in which it enters from the right, and at 32

@@ -29,6 +29,7 @@ impl Numbers {
         self.accept != self.reject && self.allow_all(steps)
     }
 
+    // A step is a pair of numbers here, not a Move: whoever gives it may give a direction that there is not.
     fn allow(self, state: u8, column: u8, step: (u8, u8)) -> bool
         ensures { result ≡ allowed self.states self.letters self.accept self.reject state column step }
     {
