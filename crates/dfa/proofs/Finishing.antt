@@ -1,5 +1,5 @@
 -- What is left once every row is taken, or a row does not fit.
-use Rattle.std.proofs.Common.{◌≡◌, ℕ, zero, suc, ◌+◌, ◌<◌, ◌≤◌, Bool, true, false, cond, ltb, List, [], ◌∷◌, ◌++◌, map, length, get_or, take, drop, set, replicate, Some, None, Option, sym, refl, ap, ◌∙◌, arith, length-take-le, get_or-set_other, get_or-take, get_or-set_same, ext_get_or, le-ltb, lt-ltb}
+use Rattle.std.proofs.Common.{◌≡◌, ℕ, zero, suc, ◌+◌, ◌<◌, ◌≤◌, Bool, true, false, cond, ltb, List, [], ◌∷◌, ◌++◌, map, length, get_or, take, drop, set, replicate, Some, None, sym, refl, ap, ◌∙◌, arith, length-take-le, get_or-set_other, get_or-take, get_or-set_same, ext_get_or, le-ltb, lt-ltb}
 use mathlib.Core.Path.{fun_ext}
 use native.Mathlib.Decide.{dec_lt, ℕ_discrete}
 use Rattle.std.specs.List.{range_with_len, slice_get}
@@ -141,9 +141,6 @@ few_enough A p e = go (dec_lt p (length (known A p)))
     go (no h) = omega arith
 
 module _ (A : Automaton) (p q : ℕ) (same : q ≡ p) where
-  pub outer_rows : (r : Option ℕ) → r ≡ rows_of A q → r ≡ rows_of A p
-  outer_rows r e = e ∙ ap (rows_of A) same
-
   pub outer_tables : (ts xs ys part : List CrossingTable) → p ≤ length ts → part ≡ take p ts → xs ≡ tables_left A q part → ys ≡ drop p ts → xs ++ ys ≡ tables_left A p ts
   outer_tables ts xs ys part l e h f =
       ap (λ zs. zs ++ ys) (h ∙ (ap (λ n. tables_left A n part) same ∙ ap (tables_left A p) e)) ∙ (ap (λ zs. tables_left A p (take p ts) ++ zs) f
