@@ -2,7 +2,7 @@ use Rattle.std.proofs.Common.{◌≡◌, ℕ, ◌+◌, true, refl, arith, rules,
 use Rattle.std.proofs.lemmas.Iterator.{cases_from_all, YieldsList-from_range}
 use Rattle.rules.specs.Steps.{allowed, at}
 use Rattle.rules.proofs.Ranging.{decided}
-use Rattle.rules.proofs.bounds.Bounds.allow_row.Goals as goal
+use Rattle.rules.proofs.numbers.Numbers.allow_row.Goals as goal
 
 pub returns : goal.returns
 returns c =

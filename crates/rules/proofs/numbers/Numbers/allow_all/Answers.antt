@@ -2,7 +2,7 @@ use Rattle.std.proofs.Common.{refl, arith, rules, tests}
 use Rattle.std.proofs.lemmas.Iterator.{cases_from_all, YieldsList-from_range}
 use Rattle.rules.specs.Steps.{at, RowKept}
 use Rattle.rules.proofs.Ranging.{decided}
-use Rattle.rules.proofs.bounds.Bounds.allow_all.Goals as goal
+use Rattle.rules.proofs.numbers.Numbers.allow_all.Goals as goal
 
 pub returns : goal.returns
 returns c =

@@ -1,28 +1,29 @@
-// The test that steps keep the laws.
+// The numbers of a rule, and the test that steps keep the laws.
 ghost use Rattle.std.specs.Prelude.{◌≡◌, ◌<◌, ◌≤◌, Decides, MatchBool};
 ghost use Rattle.two_way.specs.Automaton.{Lawful};
 ghost use Rattle.rules.specs.Steps.{allowed, at, stored, Sizes, RowKept, Kept};
 
 use crate::rule::onward;
 
-// The numbers that a step is held against.
-#[derive(Clone, Copy)]
-pub(crate) struct Bounds {
+// All that a rule is but its steps. Columns are numbered by letter, then the left end, then the right end.
+#[derive(Clone, Copy, PartialEq, Eq, Debug)]
+pub struct Numbers {
     pub states: u8,
     pub letters: u8,
+    pub start: u8,
     pub accept: u8,
     pub reject: u8,
 }
 
-impl Bounds {
-    // Whether the rule with these numbers, this start and these steps keeps the laws.
-    pub(crate) fn keep_laws(self, start: u8, steps: &[(u8, u8); 576]) -> bool
-        ensures { MatchBool result (Sizes self.states self.letters start self.accept self.reject × Kept self.states self.letters self.accept self.reject (at steps.now) × Lawful (stored self.states self.letters start self.accept self.reject steps.now)) (Lawful (stored self.states self.letters start self.accept self.reject steps.now) → ⊥) }
+impl Numbers {
+    // Whether the rule with these numbers and these steps keeps the laws.
+    pub(crate) fn keep_laws(self, steps: &[(u8, u8); 576]) -> bool
+        ensures { MatchBool result (Sizes self.states self.letters self.start self.accept self.reject × Kept self.states self.letters self.accept self.reject (at steps.now) × Lawful (stored self.states self.letters self.start self.accept self.reject steps.now)) (Lawful (stored self.states self.letters self.start self.accept self.reject steps.now) → ⊥) }
     {
         if self.states < 2 || self.states > 32 || self.letters < 1 || self.letters > 16 {
             return false;
         }
-        if start >= self.states || self.accept >= self.states || self.reject >= self.states {
+        if self.start >= self.states || self.accept >= self.states || self.reject >= self.states {
             return false;
         }
         self.accept != self.reject && self.allow_all(steps)
@@ -47,7 +48,7 @@ impl Bounds {
         ensures { Decides result (RowKept self.states self.letters self.accept self.reject (at steps.now) state) }
     {
         (0..self.letters + 2).all(|column| {
-            self.allow(state, column, steps[state as usize * 18 + column as usize])
+            self.allow(state, column, step_at(steps, state, column))
         })
     }
 
@@ -57,4 +58,12 @@ impl Bounds {
     {
         (0..self.states).all(|state| self.allow_row(steps, state))
     }
+}
+
+// Steps stand one state after the other, 18 of each.
+pub(crate) fn step_at(steps: &[(u8, u8); 576], state: u8, column: u8) -> (u8, u8)
+    requires { (state < 32) × (column < 18) }
+    ensures { result ≡ at steps.now state column }
+{
+    steps[state as usize * 18 + column as usize]
 }
