@@ -28,6 +28,6 @@ loop-number-preserved c =
     let e = c.in_ok-put_row.ensures in
     record {
       placed = placed_next c.args.writer.now c.loop-number.writer c.put_row.new.writer i (λ j. line (row_fields s.letters j (row_at ds j))) (line (row_fields c.letters.result i (get_or xs i (row_of [] 0)))) inv.continues read.1
-      inv.placed e.placed;
+          inv.placed e.placed;
       continues = goes_on inv.continues e.continues;
     }
