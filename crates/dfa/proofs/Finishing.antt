@@ -1,9 +1,10 @@
 -- What is left once every row is taken, or a row does not fit.
-use Rattle.std.proofs.Common.{◌≡◌, ℕ, zero, suc, ◌+◌, ◌<◌, ◌≤◌, Bool, true, false, cond, ltb, List, [], ◌∷◌, ◌++◌, map, length, get_or, take, drop, set, replicate, Some, None, Option, sym, refl, ap, ◌∙◌, arith, length-take-le, get_or-set_other, get_or-take, get_or-set_same, ext_get_or, le-ltb, lt-ltb}
+use Rattle.std.proofs.Common.{◌≡◌, ℕ, zero, suc, ◌+◌, ◌<◌, ◌≤◌, Bool, true, false, cond, ltb, List, [], ◌∷◌, ◌++◌, map, length, get_or, take, drop, set, replicate, Some, None, sym, refl, ap, ◌∙◌, arith, length-take-le, get_or-set_other, get_or-take, get_or-set_same, ext_get_or, le-ltb, lt-ltb}
 use mathlib.Core.Path.{fun_ext}
 use native.Mathlib.Decide.{dec_lt, ℕ_discrete}
 use Rattle.std.specs.List.{range_with_len, slice_get}
 use Rattle.std.proofs.lemmas.List.{drop_all, take-append-drop, append-nil, append_assoc, length-map, get_or-map, drop-set-lt, drop-drop, drop-append-le}
+use Rattle.std.proofs.lemmas.Option.{slice_get_within, get_or_from_slice_get}
 use Rattle.two_way.specs.Automaton.{Automaton}
 use Rattle.two_way.specs.Tables.{verdict}
 use Rattle.two_way.specs.Rows.{of_row}
@@ -18,12 +19,7 @@ use Rattle.dfa.specs.Known.{place, row, lettered, known, cell, dfa_row, dfa_of}
 use Rattle.dfa.specs.Filled.{too_few, rows_of, tables_left, dfa_left}
 use Rattle.dfa.proofs.Growth.{taken_more, known_later, settled, row_then}
 
--- what a register gives at a place
-pub nth_at : {X : Type 0} (xs : List X) (i : ℕ) (x d : X) → slice_get xs i ≡ Some x → (i < length xs) × (get_or xs i d ≡ x)
-nth_at [] i x d e = absurd (let z : ◌≡◌ {A = ℕ} 0 1 = cc in omega arith)
-nth_at (y ∷ xs) zero x d e = (omega arith, cc)
-nth_at (y ∷ xs) (suc i) x d e = let r = nth_at xs i x d e in (omega arith, r.1)
-
+-- past the last of a list
 pub nth_past : {X : Type 0} (xs : List X) (i : ℕ) → slice_get xs i ≡ None → length xs ≤ i
 nth_past [] i e = omega arith
 nth_past (y ∷ xs) zero e = absurd (let z : ◌≡◌ {A = ℕ} 0 1 = cc in omega arith)
@@ -52,10 +48,10 @@ module _ (A : Automaton) where
   -- the row that a turn takes
   module _ (ts : List CrossingTable) (t : CrossingTable) (at : ℕ) (rows : ts ≡ known A at) (here : slice_get ts at ≡ Some t) where
     pub at_known : at < length (known A at)
-    at_known = omega (arith, (nth_at ts at t t here).0, ap length rows)
+    at_known = omega (arith, slice_get_within ts at t here, ap length rows)
 
     pub is_row : t ≡ row (known A at) at
-    is_row = sym (nth_at ts at t blank_table here).1 ∙ ap (λ xs. row xs at) rows
+    is_row = sym (get_or_from_slice_get ts at t blank_table here) ∙ ap (λ xs. row xs at) rows
 
     pub next_known : lettered A t ts A.letters ≡ known A (suc at)
     next_known = ap (λ u. lettered A u ts A.letters) is_row ∙ (ap (λ xs. lettered A (row (known A at) at) xs A.letters) rows ∙ sym (taken_more A at (known A at) at_known))
@@ -141,9 +137,6 @@ few_enough A p e = go (dec_lt p (length (known A p)))
     go (no h) = omega arith
 
 module _ (A : Automaton) (p q : ℕ) (same : q ≡ p) where
-  pub outer_rows : (r : Option ℕ) → r ≡ rows_of A q → r ≡ rows_of A p
-  outer_rows r e = e ∙ ap (rows_of A) same
-
   pub outer_tables : (ts xs ys part : List CrossingTable) → p ≤ length ts → part ≡ take p ts → xs ≡ tables_left A q part → ys ≡ drop p ts → xs ++ ys ≡ tables_left A p ts
   outer_tables ts xs ys part l e h f =
       ap (λ zs. zs ++ ys) (h ∙ (ap (λ n. tables_left A n part) same ∙ ap (tables_left A p) e)) ∙ (ap (λ zs. tables_left A p (take p ts) ++ zs) f

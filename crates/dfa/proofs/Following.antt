@@ -62,6 +62,13 @@ followed_more letter m n ds ms i j k x h e s =
     turn (Some v) z = let q : k ≡ get_or (row_at ds i).cells (letter x) 0 = cc in ap (λ r. followed m n ds r (map letter (drop (j + 1) ms))) (sym q)
     turn None z = absurd (let y : ◌≡◌ {A = ℕ} 0 1 = cc in omega arith)
 
+pub next_low : (m n : ℕ) (ds : List DfaRow) (i a k : ℕ) → a < m → Some k ≡ next_row m n ds i a → k < n
+next_low m n ds i a k l s = turn (verdict_in m n (row_at ds i)) refl s
+  where
+    turn : (v : Option Verdict) → verdict_in m n (row_at ds i) ≡ v → Some k ≡ cond (is_some v) (Some (get_or (row_at ds i).cells a 0)) None → k < n
+    turn (Some v) e z = let q : k ≡ get_or (row_at ds i).cells a 0 = cc in omega (arith, leads_at m a n (row_at ds i) l (sound_leads m n (row_at ds i) v e))
+    turn None e z = absurd (let y : ◌≡◌ {A = ℕ} 0 1 = cc in omega arith)
+
 -- over the rows in use
 pub row_taken : (n i : ℕ) (ds : List DfaRow) → i < n → row_at (take n ds) i ≡ row_at ds i
 row_taken n i ds h = get_or-take n ds i blank_row h

@@ -23,6 +23,7 @@ pub fn ask<L: Alphabet>(
 
 // The same over a shelf; none where a row on the way is damaged.
 fn follow<L: Alphabet>(alphabet: &L, shelf: &Shelf, marks: &[L::Mark]) -> Option<Verdict>
+    requires { shelf.now.letters ≡ L.Alphabet.letters alphabet.now }
     ensures { result ≡ followed shelf.now.letters (length shelf.now.rows.now) shelf.now.rows.now 0 (map (L.Alphabet.letter alphabet.now) marks.now) }
 {
     let mut row = 0;

@@ -54,18 +54,20 @@ impl<'a> Shelf<'a> {
         }
     }
 
-    // The verdict of the row with this number; none where there is no such row, too.
+    // The verdict of the row with this number.
     pub(crate) fn verdict_at(&self, row: usize) -> Option<Verdict>
+        requires { row < length self.now.rows.now }
         ensures { result ≡ verdict_in self.now.letters (length self.now.rows.now) (row_at self.now.rows.now row) }
     {
-        self.verdict(self.rows.get(row)?)
+        self.verdict(&self.rows[row])
     }
 
     // The number of the row to which a letter leads from the row with this number, where that has a verdict.
     pub(crate) fn next_row(&self, row: usize, letter: u8) -> Option<usize>
+        requires { row < length self.now.rows.now }
         ensures { result ≡ next_row self.now.letters (length self.now.rows.now) self.now.rows.now row letter }
     {
-        let row = self.rows.get(row)?;
+        let row = &self.rows[row];
         self.verdict(row)?;
         Some(row.cell(letter as usize) as usize)
     }

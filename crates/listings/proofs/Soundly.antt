@@ -1,9 +1,10 @@
 -- Rows in use that are sound, row by row.
-use Rattle.std.proofs.Common.{◌≡◌, ℕ, zero, suc, ◌<◌, ◌≤◌, Bool, true, false, cond, not, ◌&&◌, ◌||◌, eqb, ltb, List, ◌++◌, length, take, is_some, None, Err, sym, refl, ap, ◌∙◌, add-one, arith, length-take-le, ne_eqb, le-ltb}
+use Rattle.std.proofs.Common.{◌≡◌, ℕ, zero, suc, ◌<◌, ◌≤◌, Bool, true, false, cond, not, ◌&&◌, ◌||◌, eqb, ltb, List, [], ◌++◌, length, get_or, take, is_some, None, Err, sym, refl, ap, ◌∙◌, add-one, arith, length-take-le, ne_eqb, le-ltb}
 use native.Mathlib.Decide.{ℕ_discrete}
 use Rattle.std.specs.Option.{ok_or}
 use Rattle.std.specs.List.{list_all}
 use Rattle.std.proofs.Math.Seq.{take-length}
+use Rattle.std.proofs.lemmas.List.{get_or_default}
 use Rattle.std.proofs.lemmas.List.Folds.{list_all_more}
 use Rattle.std.proofs.lemmas.Bool.{and_parts}
 use Rattle.refusals.specs.declared.fault.Fault.TheVariants.{NoRows, DamagedTable, ListingTooLong}
@@ -11,7 +12,7 @@ use Rattle.refusals.specs.Line.{unplaced}
 use Rattle.text.specs.Output.{room, put}
 use Rattle.dfa.specs.declared.rows.DfaRow.{DfaRow}
 use Rattle.dfa.specs.declared.shelf.Shelf.{Shelf}
-use Rattle.dfa.specs.Rows.{blank_row}
+use Rattle.dfa.specs.Rows.{row_of, blank_row}
 use Rattle.dfa.specs.Shelved.{unshelved}
 use Rattle.dfa.specs.Asked.{verdict_in, row_at}
 use Rattle.dfa.proofs.Following.{row_taken, shelved}
@@ -39,6 +40,12 @@ sound_at n m i (suc k) ds h s = go (ℕ_discrete i k) (sound_at n m i k ds)
     go : Dec (i ≡ k) → (i < k → sound n m ds k ≡ true → is_some (verdict_in m n (row_at ds i)) ≡ true) → is_some (verdict_in m n (row_at ds i)) ≡ true
     go (yes z) ih = ap (λ j. is_some (verdict_in m n (row_at ds j))) z ∙ p.1
     go (no z) ih = ih (omega arith) p.0
+
+-- the line of a row that is read from a shelf
+pub line_read : (m m' i : ℕ) (ds xs : List DfaRow) → m' ≡ m → xs ≡ ds → i < length xs → (i < length ds) × (line (row_fields m' i (get_or xs i (row_of [] 0))) ≡ line (row_fields m i (row_at ds i)))
+line_read m m' i ds xs e f h =
+    let low : i < length ds = omega (arith, ap length f) in
+    (low, (λ k. line (row_fields (e k) i (get_or (f k) i (row_of [] 0)))) ∙ ap (λ d. line (row_fields m i d)) (get_or_default ds i (row_of [] 0) blank_row low))
 
 -- the rows in use alone
 sound_taken : (n m k : ℕ) (ds : List DfaRow) → k ≤ n → sound n m (take n ds) k ≡ sound n m ds k

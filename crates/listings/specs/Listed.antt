@@ -1,6 +1,7 @@
 -- What a listing call answers and leaves. Assumes nothing.
 use Rattle.std.specs.Prelude.{ℕ, zero, suc, Bool, true, cond, not, ◌&&◌, ◌||◌, List, length, is_some, Err, Result, ◌==◌, nat_lt}
 use Rattle.std.specs.Option.{ok_or}
+use Rattle.std.specs.List.{range_with_len, flat_map}
 use Rattle.refusals.specs.declared.fault.Fault.TheVariants.{NoRows, DamagedTable, ListingTooLong}
 use Rattle.refusals.specs.declared.refusal.Refusal.{Refusal}
 use Rattle.refusals.specs.Line.{unplaced}
@@ -8,7 +9,7 @@ use Rattle.text.specs.Output.{room, put}
 use Rattle.dfa.specs.declared.rows.DfaRow.{DfaRow}
 use Rattle.dfa.specs.declared.shelf.Shelf.{Shelf}
 use Rattle.dfa.specs.Asked.{verdict_in, row_at}
-use Rattle.listings.specs.Listing.{listing}
+use Rattle.listings.specs.Listing.{line, row_fields, listing}
 
 -- each of the first k rows has a verdict, and its first m cells are rows in use
 abbrev pub sound : ℕ → ℕ → List DfaRow → ℕ → Bool
@@ -19,7 +20,10 @@ sound n m ds (suc k) = sound n m ds k && is_some (verdict_in m n (row_at ds k))
 abbrev pub damaged : ℕ → ℕ → List DfaRow → Bool
 damaged n m ds = nat_lt (length ds) n || not (sound n m ds n)
 
--- the listing of a shelf
+-- the lines of a shelf's rows, and its whole listing
+abbrev pub shelf_rows : Shelf → List ℕ
+shelf_rows s = flat_map (λ i. line (row_fields s.letters i (row_at s.rows.now i))) (range_with_len 0 (length s.rows.now))
+
 abbrev pub shelf_listing : Shelf → List ℕ
 shelf_listing s = listing (length s.rows.now) s.letters s.rows.now
 

@@ -2,9 +2,8 @@
 ghost use Rattle.std.specs.Prelude.{◌∷◌, length, decimal};
 ghost use Rattle.std.specs.List.{range_with_len, flat_map};
 ghost use Rattle.text.specs.Parts.{tab};
-ghost use Rattle.dfa.specs.Asked.{row_at};
 ghost use Rattle.listings.specs.Listing.{line, cell_of, head_fields, row_fields};
-ghost use Rattle.listings.specs.Listed.{shelf_listing};
+ghost use Rattle.listings.specs.Listed.{shelf_rows, shelf_listing};
 ghost use Rattle.listings.specs.Placed.{Placed, Continues};
 
 use crate::writing::Writer;
@@ -29,7 +28,7 @@ fn put_head(shelf: &Shelf, writer: &mut Writer) -> Option<()>
 }
 
 fn put_rows(shelf: &Shelf, writer: &mut Writer) -> Option<()>
-    ensures placed { Placed writer.old (flat_map (λ i. line (row_fields shelf.now.letters i (row_at shelf.now.rows.now i))) (range_with_len 0 (length shelf.now.rows.now))) result writer.new }
+    ensures placed { Placed writer.old (shelf_rows shelf.now) result writer.new }
     ensures continues { Continues writer.old writer.new }
 {
     for (number, row) in shelf.rows().iter().enumerate() {

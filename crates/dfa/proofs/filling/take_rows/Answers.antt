@@ -1,5 +1,6 @@
 use Rattle.std.proofs.Common.{◌≡◌, ◌+◌, ◌<◌, ◌≤◌, [], ◌∷◌, length, Some, sym, refl, ap, ◌∙◌, add-one, arith}
 use Rattle.std.proofs.lemmas.List.{set-get_or}
+use Rattle.std.proofs.lemmas.Option.{slice_get_within}
 use Rattle.register.specs.Keys.{laid_in}
 use Rattle.register.specs.Held.{held, places}
 use Rattle.two_way.specs.Verdicts.{number_of}
@@ -7,7 +8,7 @@ use Rattle.dfa.specs.Rows.{row_of}
 use Rattle.dfa.specs.Known.{known, lettered}
 use Rattle.dfa.proofs.Growth.{known_later, lettered_front}
 use Rattle.dfa.proofs.Adding.{first_added, held_laid, held_long, laid_again}
-use Rattle.dfa.proofs.Finishing.{nth_at, nth_past, next_known, row_made, more_rows, no_rows, all_rows, all_tables, all_dfa, dfa_more, dfa_rest, then_row}
+use Rattle.dfa.proofs.Finishing.{nth_past, next_known, row_made, more_rows, no_rows, all_rows, all_tables, all_dfa, dfa_more, dfa_rest, then_row}
 use Rattle.dfa.proofs.filling.take_rows.Goals as goal
 use Rattle.dfa.proofs.filling.take_rows.Goals.{else-loop-at-test, then-loop-at-test+in_default}
 
@@ -49,7 +50,7 @@ loop-at-preserved g c =
     let t = c.in-Some.table in
     let here = sym c.in-Some.ensures in
     let e = c.in_ok-cells.ensures in
-    let low = (nth_at (held k) at t t here).0 in
+    let low = slice_get_within (held k) at t here in
     let rows : held k' ≡ known A (at + 1) = e.grown.rows ∙ next_known A (held k) t at inv.rows here ∙ ap (known A) (sym (add-one at)) in
     let longer : length (held k) ≤ length (held k') = omega (arith, (lettered_front A t (held k) A.letters).longer, ap length e.grown.rows) in
     let is : c.new.result ≡ then_row A at =
