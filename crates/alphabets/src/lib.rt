@@ -42,13 +42,10 @@ mod tests {
     fn count<A: Alphabet>(alphabet: &A, letter: u8, marks: &[A::Mark]) -> usize
         ensures { result ≡ count_by (λ m. nat_eq (A.Alphabet.letter alphabet.now m) letter) marks.now }
     {
-        let mut n = 0;
-        for mark in marks {
-            if alphabet.letter(mark) == letter {
-                n += 1;
-            }
-        }
-        n
+        marks
+            .iter()
+            .filter(|mark| alphabet.letter(mark) == letter)
+            .count()
     }
 
     #[test]

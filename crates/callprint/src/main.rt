@@ -5,31 +5,31 @@
 use alphabets::PlainLetters;
 use dfa::DfaRow;
 use engine::{Answer, Call, Engine};
-use register::CrossingTable;
+use register::{Blank, CrossingTable};
 use rules::DistanceRule;
+use std::fmt;
 
 // The places of the memory, enough for the rules below.
 const PLACES: usize = 16;
 
-// Prints the answer of a call on one line.
-fn print(rt: &HostRuntime, answer: Answer) -> anyhow::Result<()> {
-    match answer {
-        Answer::Changed => rt.print("changed\n")?,
-        Answer::Built(Ok(rows)) => rt.print(format!(in rt.alloc(); "built\t{rows}\n")?)?,
-        Answer::Asked(Ok(verdict)) => {
-            let number = verdict.number();
-            rt.print(format!(in rt.alloc(); "asked\t{number}\n")?)?
+// What a call answered, as a line.
+#[derive(Clone, Copy)]
+struct Told(Answer);
+
+impl fmt::Display for Told {
+    fn fmt<W: fmt::Write>(&self, f: &mut fmt::Formatter<W>) -> fmt::Result {
+        match self.0 {
+            Answer::Changed => f.write_str("changed"),
+            Answer::Built(Ok(rows)) => write!(f, "built\t{rows}"),
+            Answer::Asked(Ok(verdict)) => write!(f, "asked\t{}", u8::from(verdict)),
+            Answer::Walked(Ok(walked)) => {
+                write!(f, "walked\t{}\t{}", u8::from(walked.verdict), walked.steps)
+            }
+            Answer::Built(Err(refusal))
+            | Answer::Asked(Err(refusal))
+            | Answer::Walked(Err(refusal)) => { write!(f, "{refusal}") }
         }
-        Answer::Walked(Ok(walked)) => {
-            let number = walked.verdict.number();
-            let steps = walked.steps;
-            rt.print(format!(in rt.alloc(); "walked\t{number}\t{steps}\n")?)?
-        }
-        Answer::Built(Err(refusal)) => rt.print(refusal.line(rt.alloc())?)?,
-        Answer::Asked(Err(refusal)) => rt.print(refusal.line(rt.alloc())?)?,
-        Answer::Walked(Err(refusal)) => rt.print(refusal.line(rt.alloc())?)?,
     }
-    Ok(())
 }
 
 // An engine with the memory that it is lent.
@@ -40,53 +40,48 @@ struct Desk {
     dfa: [DfaRow; PLACES],
 }
 
-// Performs a call, lends it that many places, and prints the answer.
-fn tell(
-    rt: &HostRuntime,
-    desk: &mut Desk,
-    call: Call<DistanceRule>,
-    places: usize,
-    marks: &[u8],
-) -> anyhow::Result<()> {
-    let lent = places.min(PLACES);
-    let answer = desk.engine.perform(
-        call,
-        &mut desk.tables[0..lent],
-        &mut desk.dfa[0..lent],
-        marks,
-    );
-    print(rt, answer)
-}
-
-fn run(rt: &HostRuntime) -> anyhow::Result<()> {
-    // The last mark but one is to be a 1; then the last a 2, over three letters.
-    let Ok(second) = DistanceRule::new(2, 2, 0b10) else {
-        return Ok(());
-    };
-    let Ok(last) = DistanceRule::new(1, 3, 0b100) else {
-        return Ok(());
-    };
-    let mut desk = Desk {
-        engine: Engine::new(second, PlainLetters::new(2)),
-        tables: [CrossingTable::new([255; 33]); PLACES],
-        dfa: [DfaRow::blank(); PLACES],
-    };
-    tell(rt, &mut desk, Call::Ask, PLACES, &[])?;
-    tell(rt, &mut desk, Call::Build, 2, &[])?;
-    tell(rt, &mut desk, Call::Build, PLACES, &[])?;
-    tell(rt, &mut desk, Call::Ask, PLACES, &[0, 1, 0])?;
-    tell(rt, &mut desk, Call::Ask, PLACES, &[1, 0, 0])?;
-    tell(rt, &mut desk, Call::Ask, 1, &[0, 1, 0])?;
-    tell(rt, &mut desk, Call::Walk, PLACES, &[0, 1, 0])?;
-    tell(rt, &mut desk, Call::Change(last), PLACES, &[])?;
-    tell(rt, &mut desk, Call::Ask, PLACES, &[0, 1, 0])?;
-    tell(rt, &mut desk, Call::Build, PLACES, &[])?;
-    tell(rt, &mut desk, Call::Walk, PLACES, &[0, 1, 0])?;
-    tell(rt, &mut desk, Call::Change(second), PLACES, &[])?;
-    tell(rt, &mut desk, Call::Build, PLACES, &[])?;
-    tell(rt, &mut desk, Call::Ask, PLACES, &[1, 1])
+impl Desk {
+    // Performs a call, lends it that many places, and prints the answer.
+    fn tell(
+        &mut self,
+        rt: &HostRuntime,
+        call: Call<DistanceRule>,
+        places: usize,
+        marks: &[u8],
+    ) -> anyhow::Result<()> {
+        let lent = places.min(PLACES);
+        let answer = self.engine.perform(
+            call,
+            &mut self.tables[..lent],
+            &mut self.dfa[..lent],
+            marks,
+        );
+        println!(rt; "{}", Told(answer))?;
+        Ok(())
+    }
 }
 
 fn main(rt: HostRuntime) -> anyhow::Result<()> {
-    run(&rt)
+    // The last mark but one is to be a 1; then the last a 2, over three letters.
+    let second = DistanceRule::new(2, 2, 0b10)?;
+    let last = DistanceRule::new(1, 3, 0b100)?;
+    let mut desk = Desk {
+        engine: Engine::new(second, PlainLetters::new(2)),
+        tables: [CrossingTable::blank(); PLACES],
+        dfa: [DfaRow::blank(); PLACES],
+    };
+    desk.tell(&rt, Call::Ask, PLACES, &[])?;
+    desk.tell(&rt, Call::Build, 2, &[])?;
+    desk.tell(&rt, Call::Build, PLACES, &[])?;
+    desk.tell(&rt, Call::Ask, PLACES, &[0, 1, 0])?;
+    desk.tell(&rt, Call::Ask, PLACES, &[1, 0, 0])?;
+    desk.tell(&rt, Call::Ask, 1, &[0, 1, 0])?;
+    desk.tell(&rt, Call::Walk, PLACES, &[0, 1, 0])?;
+    desk.tell(&rt, Call::Change(last), PLACES, &[])?;
+    desk.tell(&rt, Call::Ask, PLACES, &[0, 1, 0])?;
+    desk.tell(&rt, Call::Build, PLACES, &[])?;
+    desk.tell(&rt, Call::Walk, PLACES, &[0, 1, 0])?;
+    desk.tell(&rt, Call::Change(second), PLACES, &[])?;
+    desk.tell(&rt, Call::Build, PLACES, &[])?;
+    desk.tell(&rt, Call::Ask, PLACES, &[1, 1])
 }

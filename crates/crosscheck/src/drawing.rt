@@ -1,9 +1,19 @@
 // Rules as the simulation knows them: tables of steps, drawn from the descriptions of the kinds, with no code of the library.
-ghost use Rattle.std.specs.Prelude.{◌+◌, ◌<◌, ◌≤◌};
-
 use crate::random::Random;
+use std::fmt;
 
-// The step of a state at a column stands at 18 * state + column.
+#[derive(Clone, Copy, PartialEq, Eq)]
+pub enum Way {
+    Back = 0,
+    On = 1,
+}
+
+#[derive(Clone, Copy)]
+pub struct Step {
+    pub to: u8,
+    pub way: Way,
+}
+
 #[derive(Clone, Copy)]
 pub struct Drawing {
     pub states: u8,
@@ -11,49 +21,96 @@ pub struct Drawing {
     pub start: u8,
     pub accept: u8,
     pub reject: u8,
-    pub steps: [(u8, u8); 576],
+    // That of each state at each column.
+    pub steps: [[Step; 18]; 32],
 }
 
 impl Drawing {
+    fn new(states: u8, letters: u8, start: u8, accept: u8, reject: u8) -> Drawing {
+        let nowhere = Step {
+            to: 0,
+            way: Way::Back,
+        };
+        Drawing {
+            states,
+            letters,
+            start,
+            accept,
+            reject,
+            steps: [[nowhere; 18]; 32],
+        }
+    }
+
     // The step of a state at a column; one out of range goes nowhere.
-    pub(crate) fn step(&self, state: u8, column: u8) -> (u8, u8) {
-        let steps: &[(u8, u8)] = &self.steps;
-        match steps.get(state as usize * 18 + column as usize) {
-            Some(step) => *step,
-            None => (state, 0),
+    pub(crate) fn step(&self, state: u8, column: u8) -> Step {
+        let nowhere = Step {
+            to: state,
+            way: Way::Back,
+        };
+        match self.steps.get(state as usize) {
+            Some(row) => row.get(column as usize).copied().unwrap_or(nowhere),
+            None => nowhere,
         }
     }
 
-    fn put(&mut self, state: u8, column: u8, step: (u8, u8)) {
-        let at = state as usize * 18 + column as usize;
-        if at < 576 {
-            self.steps[at] = step;
+    fn put(&mut self, state: u8, column: u8, to: u8, way: Way) {
+        if let Some(row) = self.steps.get_mut(state as usize) {
+            if let Some(step) = row.get_mut(column as usize) {
+                *step = Step { to, way };
+            }
         }
     }
 
-    // The direction that takes a run on: back at the right end, else forward.
-    fn onward(&self, column: u8) -> u8 {
-        if column > self.letters { 0 } else { 1 }
+    // The way that takes a run on: back at the right end, else forward.
+    fn onward(&self, column: u8) -> Way {
+        if column > self.letters {
+            Way::Back
+        } else {
+            Way::On
+        }
     }
 
     // The accept and the reject state keep themselves.
     fn put_halts(&mut self) {
         for column in 0..18 {
             let way = self.onward(column);
-            self.put(self.accept, column, (self.accept, way));
-            self.put(self.reject, column, (self.reject, way));
+            self.put(self.accept, column, self.accept, way);
+            self.put(self.reject, column, self.reject, way);
         }
+    }
+
+    // The steps as stored rules take them: one state's after the other's, with numbers for the ways.
+    pub(crate) fn numbered(&self) -> [(u8, u8); 576] {
+        std::array::from_fn(|i| {
+            let step = self.steps[i / 18][i % 18];
+            (step.to, step.way as u8)
+        })
     }
 }
 
-fn empty(states: u8, letters: u8, start: u8, accept: u8, reject: u8) -> Drawing {
-    Drawing {
-        states,
-        letters,
-        start,
-        accept,
-        reject,
-        steps: [(0, 0); 576],
+// The sizes, and then a line for each state.
+impl fmt::Display for Drawing {
+    fn fmt<W: fmt::Write>(&self, f: &mut fmt::Formatter<W>) -> fmt::Result {
+        let (states, letters) = (self.states, self.letters);
+        let (start, accept, reject) = (self.start, self.accept, self.reject);
+        write!(f, "{states}\t{letters}\t{start}\t{accept}\t{reject}\n")?;
+        for state in 0..states {
+            for column in 0..letters.saturating_add(2) {
+                let step = self.step(state, column);
+                let (to, way) = (step.to, step.way as u8);
+                write!(f, "{to}.{way} ")?;
+            }
+            f.write_str("\n")?;
+        }
+        Ok(())
+    }
+}
+
+fn any_way(random: &mut Random) -> Way {
+    if random.below(2) == 1 {
+        Way::On
+    } else {
+        Way::Back
     }
 }
 
@@ -63,14 +120,14 @@ pub(crate) fn any_rule(random: &mut Random, most_states: u8, most_letters: u8) -
     let letters = 1 + random.below(most_letters.clamp(1, 16));
     let accept = random.below(states);
     let reject = (accept + 1 + random.below(states - 1)) % states;
-    let mut drawing = empty(states, letters, random.below(states), accept, reject);
+    let mut drawing = Drawing::new(states, letters, random.below(states), accept, reject);
     for state in 0..states {
         for column in 0..letters {
-            let step = (random.below(states), random.below(2));
-            drawing.put(state, column, step);
+            let to = random.below(states);
+            drawing.put(state, column, to, any_way(random));
         }
-        drawing.put(state, letters, (random.below(states), 1));
-        drawing.put(state, letters + 1, (random.below(states), 0));
+        drawing.put(state, letters, random.below(states), Way::On);
+        drawing.put(state, letters + 1, random.below(states), Way::Back);
     }
     drawing.put_halts();
     drawing
@@ -80,29 +137,25 @@ pub(crate) fn any_rule(random: &mut Random, most_states: u8, most_letters: u8) -
 pub(crate) fn by_distance(distance: u8, letters: u8, set: u16) -> Drawing {
     let accept = distance.saturating_add(1);
     let reject = distance.saturating_add(2);
-    let mut drawing = empty(reject.saturating_add(1), letters, 0, accept, reject);
+    let mut drawing = Drawing::new(reject.saturating_add(1), letters, 0, accept, reject);
     for column in 0..18 {
         let way = drawing.onward(column);
-        let at_end = column >= letters;
-        drawing.put(0, column, if way == 1 { (0, 1) } else { (1, 0) });
+        match way {
+            Way::On => drawing.put(0, column, 0, Way::On),
+            Way::Back => drawing.put(0, column, 1, Way::Back),
+        }
+        if column >= letters {
+            for state in 1..=distance {
+                drawing.put(state, column, reject, way);
+            }
+            continue;
+        }
         for state in 1..distance {
-            drawing.put(
-                state,
-                column,
-                if at_end {
-                    (reject, way)
-                } else {
-                    (state + 1, 0)
-                },
-            );
+            drawing.put(state, column, state + 1, Way::Back);
         }
         let marked = column < 16 && set & (1 << column) != 0;
         let found = if marked { accept } else { reject };
-        drawing.put(
-            distance,
-            column,
-            if at_end { (reject, way) } else { (found, 1) },
-        );
+        drawing.put(distance, column, found, Way::On);
     }
     drawing.put_halts();
     drawing
@@ -111,7 +164,7 @@ pub(crate) fn by_distance(distance: u8, letters: u8, set: u16) -> Drawing {
 // The first rule, then the second: the second's states come after the first's.
 pub(crate) fn in_turn(first: &Drawing, second: &Drawing) -> Drawing {
     let shift = first.states;
-    let mut drawing = empty(
+    let mut drawing = Drawing::new(
         shift.saturating_add(second.states),
         first.letters,
         first.start,
@@ -121,21 +174,17 @@ pub(crate) fn in_turn(first: &Drawing, second: &Drawing) -> Drawing {
     let reject = drawing.reject;
     for column in 0..18 {
         for state in 0..first.states {
-            drawing.put(state, column, first.step(state, column));
+            let step = first.step(state, column);
+            drawing.put(state, column, step.to, step.way);
         }
         for state in 0..second.states {
-            let (to, way) = second.step(state, column);
-            drawing.put(
-                shift.saturating_add(state),
-                column,
-                (shift.saturating_add(to), way),
-            );
+            let step = second.step(state, column);
+            drawing.put(shift.saturating_add(state), column, shift.saturating_add(step.to), step.way);
         }
-        let way = drawing.onward(column);
-        drawing.put(first.accept, column, (first.accept, 0));
-        drawing.put(first.reject, column, (reject, way));
+        drawing.put(first.accept, column, first.accept, Way::Back);
+        drawing.put(first.reject, column, reject, drawing.onward(column));
     }
-    let (to, way) = second.step(second.start, second.letters);
-    drawing.put(first.accept, first.letters, (shift.saturating_add(to), way));
+    let step = second.step(second.start, second.letters);
+    drawing.put(first.accept, first.letters, shift.saturating_add(step.to), step.way);
     drawing
 }

@@ -9,28 +9,24 @@ mod samples;
 mod simulation;
 
 use anyhow::anyhow;
-use comparing::{Memory, Tally, compare};
-use drawing::{any_rule, by_distance, in_turn};
+use comparing::{Comparison, Memory, Tally};
+use drawing::{Drawing, any_rule, by_distance, in_turn};
 use random::Random;
-use rules::{DistanceRule, PairRule, StoredRule};
+use rules::{DistanceRule, Numbers, PairRule, StoredRule};
 use samples::all_hold;
 
 const ROUNDS: u32 = 1500;
 
 // The drawn rule as the library's stored one.
-fn stored(drawing: &drawing::Drawing) -> anyhow::Result<StoredRule> {
-    let rule = StoredRule::from_steps(
-        drawing.states,
-        drawing.letters,
-        drawing.start,
-        drawing.accept,
-        drawing.reject,
-        &drawing.steps,
-    );
-    match rule {
-        Some(rule) => Ok(rule),
-        None => Err(anyhow!("a drawn rule is not lawful")),
-    }
+fn stored(drawing: &Drawing) -> anyhow::Result<StoredRule> {
+    let numbers = Numbers {
+        states: drawing.states,
+        letters: drawing.letters,
+        start: drawing.start,
+        accept: drawing.accept,
+        reject: drawing.reject,
+    };
+    StoredRule::from_steps(numbers, &drawing.numbered()).ok_or(anyhow!("a drawn rule is not lawful"))
 }
 
 // A distance rule of either side, with the same numbers.
@@ -38,7 +34,7 @@ fn distance(
     random: &mut Random,
     letters: u8,
     most: u8,
-) -> anyhow::Result<(DistanceRule, drawing::Drawing)> {
+) -> anyhow::Result<(DistanceRule, Drawing)> {
     let distance = 1 + random.below(most.clamp(1, 20));
     let mut set = 0;
     for letter in 0..letters.min(16) {
@@ -46,70 +42,41 @@ fn distance(
             set |= 1 << letter;
         }
     }
-    match DistanceRule::new(distance, letters, set) {
-        Ok(rule) => Ok((rule, by_distance(distance, letters, set))),
-        Err(_) => Err(anyhow!("a distance is out of range")),
-    }
+    let rule = DistanceRule::new(distance, letters, set)?;
+    Ok((rule, by_distance(distance, letters, set)))
 }
 
 // A stored rule, a distance rule, and pairs of them.
-fn round(
-    rt: &HostRuntime,
-    random: &mut Random,
-    memory: &mut Memory,
-    tally: &mut Tally,
-) -> anyhow::Result<()> {
-    let small = any_rule(random, 5, 3);
-    compare(rt, stored(&small)?, &small, random, memory, tally)?;
-    let large = any_rule(random, 32, 16);
-    compare(rt, stored(&large)?, &large, random, memory, tally)?;
-    let (rule, drawn) = distance(random, small.letters, 8)?;
-    compare(rt, rule, &drawn, random, memory, tally)?;
+fn round(comparison: &mut Comparison) -> anyhow::Result<()> {
+    let small = any_rule(&mut comparison.random, 5, 3);
+    comparison.compare(stored(&small)?, &small)?;
+    let large = any_rule(&mut comparison.random, 32, 16);
+    comparison.compare(stored(&large)?, &large)?;
+    let (rule, drawn) = distance(&mut comparison.random, small.letters, 8)?;
+    comparison.compare(rule, &drawn)?;
     let both = in_turn(&drawn, &small);
-    compare(
-        rt,
-        PairRule::new(rule, stored(&small)?),
-        &both,
-        random,
-        memory,
-        tally,
-    )?;
+    comparison.compare(PairRule::new(rule, stored(&small)?), &both)?;
     let other = in_turn(&small, &drawn);
-    compare(
-        rt,
-        PairRule::new(stored(&small)?, rule),
-        &other,
-        random,
-        memory,
-        tally,
-    )
+    comparison.compare(PairRule::new(stored(&small)?, rule), &other)
 }
 
-fn run(rt: &HostRuntime) -> anyhow::Result<()> {
+fn main(rt: HostRuntime) -> anyhow::Result<()> {
     let samples = if all_hold(rt.alloc())? {
         "hold"
     } else {
         "fail"
     };
     println!(rt; "samples\t{samples}")?;
-    let mut random = Random::new(20_261_118);
-    let mut memory = Memory::new(rt.alloc(), 512)?;
-    let mut tally = Tally::default();
+    let mut comparison = Comparison {
+        rt: &rt,
+        random: Random::new(20_261_118),
+        memory: Memory::new(rt.alloc(), 512)?,
+        tally: Tally::default(),
+    };
     for _ in 0..ROUNDS {
-        round(rt, &mut random, &mut memory, &mut tally)?;
+        round(&mut comparison)?;
     }
-    let rules = tally.rules;
-    let built = tally.built;
-    let counted = tally.counted;
-    let walks = tally.walks;
-    let asks = tally.asks;
-    let mismatches = tally.mismatches;
-    println!(rt;
-        "rules\t{rules}\nbuilt\t{built}\ncounted\t{counted}\nwalks\t{walks}\nasks\t{asks}\nmismatches\t{mismatches}"
-    )?;
+    let tally = comparison.tally;
+    rt.print(format!(in rt.alloc(); "{tally}")?)?;
     Ok(())
-}
-
-fn main(rt: HostRuntime) -> anyhow::Result<()> {
-    run(&rt)
 }

@@ -1,41 +1,20 @@
 // Runs of a drawn rule, step by step, and the tables of its words, found by running.
-use crate::drawing::Drawing;
+use crate::drawing::{Drawing, Way};
 use std::alloc::{AllocError, Global};
+use std::collections::{BTreeSet, VecDeque};
 
-// What a run came to: 1 accepts, 2 rejects, 3 loops; and its steps.
+#[derive(Clone, Copy, PartialEq, Eq)]
+pub enum Ending {
+    Accepts,
+    Rejects,
+    Loops,
+}
+
+// What a run came to, and its steps.
 #[derive(Clone, Copy, PartialEq, Eq)]
 pub struct Outcome {
-    pub verdict: u8,
+    pub ending: Ending,
     pub steps: u32,
-}
-
-// Which configurations a run has met.
-#[derive(Drop)]
-struct Met {
-    seen: Vec<bool>,
-}
-
-impl Met {
-    fn new(heap: Global, positions: usize) -> Result<Met, AllocError> {
-        let mut seen = Vec::new(heap);
-        for _ in 0..positions.saturating_mul(32) {
-            seen.push(false)?;
-        }
-        Ok(Met { seen })
-    }
-
-    // Whether the configuration is new; it is then met.
-    fn meet(&mut self, state: u8, place: usize) -> bool {
-        let at = place.saturating_mul(32).saturating_add(state as usize);
-        match self.seen.get_mut(at) {
-            Some(seen) => {
-                let new = !*seen;
-                *seen = true;
-                new
-            }
-            None => false,
-        }
-    }
 }
 
 // The column that a position shows.
@@ -43,110 +22,101 @@ fn column(drawing: &Drawing, word: &[u8], place: usize) -> u8 {
     if place == 0 {
         return drawing.letters;
     }
-    match word.get(place - 1) {
-        Some(letter) => *letter,
-        None => drawing.letters.saturating_add(1),
+    word.get(place - 1)
+        .copied()
+        .unwrap_or(drawing.letters.saturating_add(1))
+}
+
+fn moved(place: usize, way: Way) -> usize {
+    match way {
+        Way::On => place.saturating_add(1),
+        Way::Back => place.saturating_sub(1),
     }
 }
 
-fn moved(place: usize, way: u8) -> usize {
-    if way == 1 {
-        place.saturating_add(1)
-    } else {
-        place.saturating_sub(1)
-    }
-}
-
-// The run over the whole word.
+// The run over the whole word: it loops where it meets a configuration again.
 pub(crate) fn run(heap: Global, drawing: &Drawing, word: &[u8]) -> Result<Outcome, AllocError> {
-    let positions = word.len().saturating_add(2);
-    let mut met = Met::new(heap, positions)?;
+    let mut met = BTreeSet::new(heap);
     let mut state = drawing.start;
     let mut place = 0;
     for steps in 0..u32::MAX {
         if state == drawing.accept {
-            return Ok(Outcome { verdict: 1, steps });
+            let ending = Ending::Accepts;
+            return Ok(Outcome { ending, steps });
         }
         if state == drawing.reject {
-            return Ok(Outcome { verdict: 2, steps });
+            let ending = Ending::Rejects;
+            return Ok(Outcome { ending, steps });
         }
-        if !met.meet(state, place) {
+        if !met.insert((state, place))? {
             break;
         }
-        let (to, way) = drawing.step(state, column(drawing, word, place));
-        state = to;
-        place = moved(place, way);
+        let step = drawing.step(state, column(drawing, word, place));
+        state = step.to;
+        place = moved(place, step.way);
     }
-    let turns = (positions & 0xff_ffff) as u32;
+    let turns = (word.len().saturating_add(2) & 0xff_ffff) as u32;
     let going = u32::from(drawing.states.saturating_sub(2));
     Ok(Outcome {
-        verdict: 3,
+        ending: Ending::Loops,
         steps: going.saturating_mul(turns),
     })
 }
 
-// The state in which a run from here first leaves the word to the right; 255 where it never does.
+// The state in which a run from here first leaves the word to the right; none where it never does.
 fn leaves(
     heap: Global,
     drawing: &Drawing,
     word: &[u8],
     from: u8,
     at: usize,
-) -> Result<u8, AllocError> {
-    let mut met = Met::new(heap, word.len().saturating_add(1))?;
+) -> Result<Option<u8>, AllocError> {
+    let mut met = BTreeSet::new(heap);
     let mut state = from;
     let mut place = at;
     for _ in 0..u32::MAX {
         if place > word.len() {
-            return Ok(state);
+            return Ok(Some(state));
         }
-        if !met.meet(state, place) {
+        if !met.insert((state, place))? {
             break;
         }
-        let (to, way) = drawing.step(state, column(drawing, word, place));
-        state = to;
-        place = moved(place, way);
+        let step = drawing.step(state, column(drawing, word, place));
+        state = step.to;
+        place = moved(place, step.way);
     }
-    Ok(255)
+    Ok(None)
 }
 
 // What the word does to a run, from each state on its last position, and from the beginning.
-fn behaviour(heap: Global, drawing: &Drawing, word: &[u8]) -> Result<[u8; 33], AllocError> {
-    let mut answers = [255; 33];
-    for state in 0..drawing.states.min(32) {
-        answers[state as usize] = leaves(heap, drawing, word, state, word.len())?;
+fn behaviour(heap: Global, drawing: &Drawing, word: &[u8]) -> Result<Vec<Option<u8>>, AllocError> {
+    let mut answers = Vec::new(heap);
+    for state in 0..drawing.states {
+        answers.push(leaves(heap, drawing, word, state, word.len())?)?;
     }
-    answers[32] = leaves(heap, drawing, word, drawing.start, 0)?;
+    answers.push(leaves(heap, drawing, word, drawing.start, 0)?)?;
     Ok(answers)
 }
 
-fn longer(heap: Global, word: &Vec<u8>, letter: u8) -> Result<Vec<u8>, AllocError> {
-    let mut more = word.clone()?;
-    more.push(letter)?;
-    Ok(more)
-}
-
-// How many words there are of which no two behave alike: a word is tried where a shorter one was new. None where they are over `most`.
+// How many words there are of which no two behave alike: a word is tried where a shorter one was new. None where they are `most` or more.
 pub(crate) fn different_words(
     heap: Global,
     drawing: &Drawing,
     most: usize,
 ) -> Result<Option<usize>, AllocError> {
-    let mut words = Vec::new(heap);
-    let mut known = Vec::new(heap);
-    words.push(Vec::new(heap))?;
-    known.push(behaviour(heap, drawing, &[])?)?;
-    for at in 0..most {
-        let Some(word) = words.get(at) else {
-            return Ok(Some(at));
+    let mut known = BTreeSet::new(heap);
+    let mut waiting = VecDeque::new(heap);
+    known.insert(behaviour(heap, drawing, &[])?)?;
+    waiting.push_back(Vec::new(heap))?;
+    for _ in 0..most {
+        let Some(word) = waiting.pop_front() else {
+            return Ok(Some(known.len()));
         };
-        let base = word.clone()?;
         for letter in 0..drawing.letters {
-            let next = longer(heap, &base, letter)?;
-            let answers = behaviour(heap, drawing, &next)?;
-            if !known.contains(&answers) {
-                known.push(answers)?;
-                words.push(next)?;
+            let mut longer = word.clone()?;
+            longer.push(letter)?;
+            if known.insert(behaviour(heap, drawing, &longer)?)? {
+                waiting.push_back(longer)?;
             }
         }
     }

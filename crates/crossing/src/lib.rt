@@ -43,6 +43,7 @@ fn table_of<R: Rule, F: Fn(u8) -> Option<u8>>(
     ensures { (t : Table) → first ≡ t.first → ((q : ℕ) (p : Option ℕ) → q < (R.Rule.meaning rule.now).states → F.post answer q p → p ≡ t.at q) → result ≡ record { answers = row_of (R.Rule.meaning rule.now) t } }
 {
     let mut answers = [NEVER; 33];
+    // Not `array::from_fn`: that the closure, which calls another, gives the answers was not proved.
     for state in 0..rule.states() {
         answers[state as usize] = answer(state).unwrap_or(NEVER);
     }

@@ -74,16 +74,6 @@ module _ (A : Automaton) where
     pub no_rows : None ≡ rows_of A p
     no_rows = ap (λ b. cond b None (Some (length (known A p)))) (sym yes_few)
 
-    pub no_tables : (ts xs : List CrossingTable) → length ts ≡ p → xs ≡ replicate p blank_table → xs ≡ tables_left A p ts
-    no_tables ts xs len e =
-        e ∙ (sym (append-nil (replicate p blank_table)) ∙ (ap (λ ys. replicate p blank_table ++ ys) (sym (drop_all p ts (omega arith)))
-        ∙ ap (λ b. cond b (replicate p blank_table ++ drop p ts) (known A p ++ drop (length (known A p)) ts)) (sym yes_few)))
-
-    pub no_dfa : (ds xs : List DfaRow) → length ds ≡ p → xs ≡ replicate p blank_row → xs ≡ dfa_left A p ds
-    no_dfa ds xs len e =
-        e ∙ (sym (append-nil (replicate p blank_row)) ∙ (ap (λ ys. replicate p blank_row ++ ys) (sym (drop_all p ds (omega arith)))
-        ∙ ap (λ b. cond b (replicate p blank_row ++ drop p ds) (dfa_of A (known A p) ++ drop (length (known A p)) ds)) (sym yes_few)))
-
   -- every row is taken
   module _ (at p : ℕ) (le : at ≤ p) (done : length (known A at) ≡ at) where
     all_known : known A p ≡ known A at
@@ -131,9 +121,6 @@ dfa_more P ds at d l e each j h = go (ℕ_discrete j at)
 
 pub dfa_rest : (ds es : List DfaRow) (at : ℕ) (d : DfaRow) → drop at ds ≡ drop at es → drop (at + 1) (set ds at d) ≡ drop (at + 1) es
 dfa_rest ds es at d e = drop-set-lt (at + 1) ds at d (omega arith) ∙ (sym (drop-drop 1 at ds) ∙ (ap (drop 1) e ∙ drop-drop 1 at es))
-
-pub by_way : {X : Type 0} (a b c : X) → b ≡ c → a ≡ b → a ≡ c
-by_way a b c e f = f ∙ e
 
 -- the places of a longer slice
 pub joined : {X : Type 0} (ks : List X) (b : X) (p n : ℕ) (ts : List X) (few : Bool) → p ≤ length ts → (few ≡ false → n ≤ p)

@@ -1,19 +1,30 @@
 -- A turn of an ask.
-use Rattle.std.proofs.Common.{◌≡◌, ℕ, zero, suc, ◌+◌, ◌<◌, ◌≤◌, Bool, true, false, cond, ltb, List, [], ◌∷◌, map, length, get_or, drop, is_some, Some, None, Err, Option, sym, refl, ap, ◌∙◌, add-one, arith, le-ltb, lt-ltb, ne_eqb}
+use Rattle.std.proofs.Common.{◌≡◌, ℕ, zero, suc, ◌+◌, ◌<◌, ◌≤◌, Bool, true, false, cond, ◌≢◌, ◌&&◌, ltb, eqb, List, [], ◌∷◌, ◌++◌, map, length, get_or, take, drop, is_some, Some, None, Err, Option, sym, refl, ap, ◌∙◌, add-one, arith, le-ltb, ne_eqb, get_or-take, length-take-le}
 use native.Mathlib.Decide.{ℕ_discrete}
 use Rattle.std.specs.Option.{ok_or}
-use Rattle.std.proofs.lemmas.List.{drop_more, get_or_default}
-use Rattle.std.proofs.lemmas.Bool.{and_parts, and_from, ltb-true}
+use Rattle.std.specs.List.{range_with_len, list_all}
+use Rattle.std.proofs.lemmas.List.{map-id, drop_more}
+use Rattle.std.proofs.Math.Bool.{and-true}
+use Rattle.std.proofs.lemmas.List.FromFn.{map-range_with_len_more}
+use Rattle.std.proofs.lemmas.List.Folds.{list_all-append}
+use Rattle.std.proofs.lemmas.Bool.{and_parts, ltb-true, ltb-false, eqb-false}
 use Rattle.two_way.specs.declared.Verdict.{Verdict}
 use Rattle.two_way.specs.Verdicts.{named}
 use Rattle.refusals.specs.declared.fault.Fault.TheVariants.{NoRows, DamagedTable}
 use Rattle.refusals.specs.Line.{unplaced}
 use Rattle.dfa.specs.declared.rows.DfaRow.{DfaRow}
-use Rattle.dfa.specs.Rows.{row_of, blank_row}
-use Rattle.dfa.specs.Asked.{leads, verdict_in, row_at, followed, asked}
+use Rattle.dfa.specs.Rows.{blank_row}
+use Rattle.dfa.specs.Shelved.{unshelved}
+use Rattle.dfa.specs.Asked.{leads, verdict_in, row_at, next_row, followed, asked}
 
-pub leads_more : (a n : ℕ) (d : DfaRow) → leads a n d ≡ true → get_or d.cells a 0 < n → leads (a + 1) n d ≡ true
-leads_more a n d e h = rw (add-one a) (and_from (leads a n d) (ltb (get_or d.cells a 0) n) e (lt-ltb (get_or d.cells a 0) n h))
+-- a test of each letter below m, as a range gives them
+pub leads_all : (m n : ℕ) (d : DfaRow) → list_all (λ a. ltb (get_or d.cells a 0) n) (range_with_len 0 m) ≡ leads m n d
+leads_all zero n d = refl
+leads_all (suc m) n d =
+    let p = λ (a : ℕ). ltb (get_or d.cells a 0) n in
+    let push : range_with_len 0 (suc m) ≡ range_with_len 0 m ++ (m ∷ []) =
+    ap (range_with_len 0) (sym (add-one m)) ∙ sym (map-id (range_with_len 0 (m + 1))) ∙ map-range_with_len_more (λ x. x) 0 m m (omega arith) ∙ ap (λ xs. xs ++ (m ∷ [])) (map-id (range_with_len 0 m)) in
+    ap (list_all p) push ∙ list_all-append p (range_with_len 0 m) (m ∷ []) ∙ (λ i. leads_all m n d i && and-true (p m) i)
 
 -- each of the first m cells is a row in use
 pub leads_at : (m a n : ℕ) (d : DfaRow) → a < m → leads m n d ≡ true → get_or d.cells a 0 < n
@@ -27,13 +38,6 @@ leads_at (suc m) a n d h e = go (ℕ_discrete a m) (leads_at m a n d)
     go (yes z) ih = rw z (ltb-true (get_or d.cells m 0) n p.1)
     go (no z) ih = ih (omega arith) p.0
 
-false_from : (b : Bool) → (b ≡ true → ⊥) → b ≡ false
-false_from true h = absurd (h refl)
-false_from false h = refl
-
-pub leads_not : (m a n : ℕ) (d : DfaRow) → a < m → n ≤ get_or d.cells a 0 → false ≡ leads m n d
-leads_not m a n d h g = sym (false_from (leads m n d) (λ e. omega (arith, leads_at m a n d h e)))
-
 -- a row that has a verdict leads on
 pub sound_leads : (m n : ℕ) (d : DfaRow) (v : Verdict) → verdict_in m n d ≡ Some v → leads m n d ≡ true
 sound_leads m n d v e = go (leads m n d) refl
@@ -42,26 +46,54 @@ sound_leads m n d v e = go (leads m n d) refl
     go true f = f
     go false f = let z : ◌≡◌ {A = Option Verdict} None (Some v) = sym (ap (λ b. cond b (named d.verdict) None) f) ∙ e in absurd (let y : ◌≡◌ {A = ℕ} 0 1 = cc in omega arith)
 
--- the row that a read of the slice gives
-abbrev pub bare : DfaRow
-bare = row_of [] 0
+-- a mark more, from a row that leads on
+pub followed_more : {X : Type 0} (letter : X → ℕ) (m n : ℕ) (ds : List DfaRow) (ms : List X) (i j k : ℕ) (x : X) → j < length ms → x ≡ get_or ms j x → Some k ≡ next_row m n ds i (letter x)
+    → followed m n ds i (map letter (drop j ms)) ≡ followed m n ds k (map letter (drop (j + 1) ms))
+followed_more letter m n ds ms i j k x h e s =
+    ap (λ ys. followed m n ds i (map letter ys)) (drop_more ms j x h ∙ ap (λ y. y ∷ drop (j + 1) ms) (sym e)) ∙ turn (verdict_in m n (row_at ds i)) s
+  where
+    turn : (v : Option Verdict) → Some k ≡ cond (is_some v) (Some (get_or (row_at ds i).cells (letter x) 0)) None
+        → cond (is_some v) (followed m n ds (get_or (row_at ds i).cells (letter x) 0) (map letter (drop (j + 1) ms))) None ≡ followed m n ds k (map letter (drop (j + 1) ms))
+    turn (Some v) z = let q : k ≡ get_or (row_at ds i).cells (letter x) 0 = cc in ap (λ r. followed m n ds r (map letter (drop (j + 1) ms))) (sym q)
+    turn None z = absurd (let y : ◌≡◌ {A = ℕ} 0 1 = cc in omega arith)
 
-pub read_as : (m k n : ℕ) (ds : List DfaRow) (i : ℕ) (o : Option Verdict) → i < length ds → k ≡ m → o ≡ verdict_in k n (get_or ds i bare) → o ≡ verdict_in m n (row_at ds i)
-read_as m k n ds i o l e h = h ∙ (ap (λ j. verdict_in j n (get_or ds i bare)) e ∙ ap (verdict_in m n) (get_or_default ds i bare blank_row l))
+-- over the rows in use
+pub row_taken : (n i : ℕ) (ds : List DfaRow) → i < n → row_at (take n ds) i ≡ row_at ds i
+row_taken n i ds h = get_or-take n ds i blank_row h
 
-module _ {X : Type 0} (letter : X → ℕ) (m n : ℕ) (ds : List DfaRow) where
-  pub followed_more : (ms : List X) (i j : ℕ) (x : X) (v : Verdict) → j < length ms → x ≡ get_or ms j x → Some v ≡ verdict_in m n (row_at ds i)
-      → followed m n ds i (map letter (drop j ms)) ≡ followed m n ds (get_or (row_at ds i).cells (letter x) 0) (map letter (drop (j + 1) ms))
-  followed_more ms i j x v h e s =
-      let d : drop j ms ≡ x ∷ drop (j + 1) ms = drop_more ms j x h ∙ ap (λ y. y ∷ drop (j + 1) ms) (sym e) in
-      ap (λ ys. followed m n ds i (map letter ys)) d
-      ∙ ap (λ o. cond (is_some o) (followed m n ds (get_or (row_at ds i).cells (letter x) 0) (map letter (drop (j + 1) ms))) None) (sym s)
+-- rows that are not refused are some, and no more than there are
+pub shelved : (n : ℕ) (ds : List DfaRow) → unshelved n ds ≡ None → (0 < n) × (n ≤ length ds)
+shelved n ds e = go (eqb n 0) (ltb (length ds) n) refl refl e
+  where
+    go : (a b : Bool) → eqb n 0 ≡ a → ltb (length ds) n ≡ b → cond a (Some (unplaced NoRows)) (cond b (Some (unplaced DamagedTable)) None) ≡ None → (0 < n) × (n ≤ length ds)
+    go true b x y z = absurd (let w : ⊥ = cc in w)
+    go false true x y z = absurd (let w : ⊥ = cc in w)
+    go false false x y z = let some : n ≢ 0 = eqb-false n 0 x in (omega arith, ltb-false (length ds) n y)
 
-  pub followed_not : (w : List ℕ) (i : ℕ) → None ≡ verdict_in m n (row_at ds i) → followed m n ds i w ≡ None
-  followed_not [] i s = sym s
-  followed_not (a ∷ w) i s = ap (λ o. cond (is_some o) (followed m n ds (get_or (row_at ds i).cells a 0) w) None) (sym s)
+pub asked_is : (m n : ℕ) (ds : List DfaRow) (w : List ℕ) → 0 < n → n ≤ length ds → asked m n ds w ≡ ok_or (followed m n ds 0 w) (unplaced DamagedTable)
+asked_is m n ds w a b =
+    ap (λ t. cond t (Err (unplaced NoRows)) (cond (ltb (length ds) n) (Err (unplaced DamagedTable)) (ok_or (followed m n ds 0 w) (unplaced DamagedTable)))) (ne_eqb n 0 (λ z. omega arith))
+    ∙ ap (λ t. cond t (Err (unplaced DamagedTable)) (ok_or (followed m n ds 0 w) (unplaced DamagedTable))) (le-ltb (length ds) n b)
 
-  pub asked_is : (w : List ℕ) → (n ≡ 0 → ⊥) → n ≤ length ds → asked m n ds w ≡ ok_or (followed m n ds 0 w) (unplaced DamagedTable)
-  asked_is w a b =
-      ap (λ t. cond t (Err (unplaced NoRows)) (cond (ltb (length ds) n) (Err (unplaced DamagedTable)) (ok_or (followed m n ds 0 w) (unplaced DamagedTable)))) (ne_eqb n 0 a)
-      ∙ ap (λ t. cond t (Err (unplaced DamagedTable)) (ok_or (followed m n ds 0 w) (unplaced DamagedTable))) (le-ltb (length ds) n b)
+module _ {X : Type 0} (letter : X → ℕ) (m n : ℕ) (ds : List DfaRow) (low : (x : X) → letter x < m) where
+  followed_taken : (ms : List X) (i : ℕ) → i < n → followed m n (take n ds) i (map letter ms) ≡ followed m n ds i (map letter ms)
+  followed_taken [] i h = ap (verdict_in m n) (row_taken n i ds h)
+  followed_taken (x ∷ ms) i h =
+      ap (λ (d : DfaRow). cond (is_some (verdict_in m n d)) (followed m n (take n ds) (get_or d.cells (letter x) 0) (map letter ms)) None) (row_taken n i ds h)
+      ∙ turn (verdict_in m n (row_at ds i)) refl (followed_taken ms)
+    where
+      c : ℕ
+      c = get_or (row_at ds i).cells (letter x) 0
+
+      turn : (o : Option Verdict) → verdict_in m n (row_at ds i) ≡ o → ((j : ℕ) → j < n → followed m n (take n ds) j (map letter ms) ≡ followed m n ds j (map letter ms))
+          → cond (is_some o) (followed m n (take n ds) c (map letter ms)) None ≡ cond (is_some o) (followed m n ds c (map letter ms)) None
+      turn None e ih = refl
+      turn (Some v) e ih = ih c (leads_at m (letter x) n (row_at ds i) (low x) (sound_leads m n (row_at ds i) v e))
+
+  -- what is asked of a shelf
+  pub asked_taken : (k : ℕ) (xs : List DfaRow) (ms : List X) → unshelved n ds ≡ None → xs ≡ take n ds → k ≡ m
+      → ok_or (followed k (length xs) xs 0 (map letter ms)) (unplaced DamagedTable) ≡ asked m n ds (map letter ms)
+  asked_taken k xs ms u e z =
+      let p = shelved n ds u in
+      let long : length xs ≡ n = ap length e ∙ length-take-le n ds p.1 in
+      ap (λ o. ok_or o (unplaced DamagedTable)) ((λ i. followed (z i) (long i) (e i) 0 (map letter ms)) ∙ followed_taken ms 0 p.0) ∙ sym (asked_is m n ds (map letter ms) p.0 p.1)

@@ -1,5 +1,5 @@
 -- What an ask answers, with m letters and n rows in use. Assumes nothing.
-use Rattle.std.specs.Prelude.{ℕ, zero, suc, Bool, true, cond, ◌&&◌, List, [], ◌∷◌, length, is_some, None, Err, Option, Result, ◌==◌, nat_lt, slice_index, slice_index_or}
+use Rattle.std.specs.Prelude.{ℕ, zero, suc, Bool, true, cond, ◌&&◌, List, [], ◌∷◌, length, is_some, Some, None, Err, Option, Result, ◌==◌, nat_lt, slice_index, slice_index_or}
 use Rattle.std.specs.Option.{ok_or}
 use Rattle.two_way.specs.declared.Verdict.{Verdict}
 use Rattle.two_way.specs.Verdicts.{named}
@@ -20,6 +20,10 @@ verdict_in m n d = cond (leads m n d) (named d.verdict) None
 
 abbrev pub row_at : List DfaRow → ℕ → DfaRow
 row_at ds i = slice_index_or ds i blank_row
+
+-- the row that a letter leads to from row i, which has to be sound
+abbrev pub next_row : ℕ → ℕ → List DfaRow → ℕ → ℕ → Option ℕ
+next_row m n ds i a = cond (is_some (verdict_in m n (row_at ds i))) (Some (slice_index (row_at ds i).cells a)) None
 
 -- from row i by the letters one after another; each row met has to be sound
 abbrev pub followed : ℕ → ℕ → List DfaRow → ℕ → List ℕ → Option Verdict

@@ -1,7 +1,6 @@
 // The rows of a rule, written into lent memory.
-ghost use Rattle.std.specs.Prelude.{◌≡◌, ℕ, ◌≤◌, length, replicate};
+ghost use Rattle.std.specs.Prelude.{◌≡◌, ℕ, ◌≤◌, [], length, OnSome};
 ghost use Rattle.register.specs.Held.{held, places};
-ghost use Rattle.dfa.specs.Rows.{blank_row};
 ghost use Rattle.dfa.specs.Filled.{capacity, rows_of, tables_left, dfa_left, Grown};
 
 use crate::rows::DfaRow;
@@ -19,7 +18,7 @@ pub fn fill<R: Rule>(rule: &R, tables: &mut [CrossingTable], dfa: &mut [DfaRow])
     ensures dfa { dfa.new ≡ dfa_left (R.Rule.meaning rule.now) (capacity tables.old dfa.old) dfa.old }
 {
     let places = tables.len().min(dfa.len()).min(CAPACITY);
-    fill_all(rule, &mut tables[0..places], &mut dfa[0..places])
+    fill_all(rule, &mut tables[..places], &mut dfa[..places])
 }
 
 // The same where all places are to be used.
@@ -30,20 +29,36 @@ fn fill_all<R: Rule>(rule: &R, tables: &mut [CrossingTable], dfa: &mut [DfaRow])
     ensures dfa { dfa.new ≡ dfa_left (R.Rule.meaning rule.now) (length tables.old) dfa.old }
 {
     let mut known = Register::new(tables);
-    let Some(_) = known.add(empty_table(rule)) else {
-        return None;
-    };
-    let mut at = 0;
-    while let Some(table) = known.get(at) {
-        let Some(cells) = take_row(rule, &mut known, &table) else {
-            known.clear();
-            blank_all(dfa);
-            return None;
-        };
-        dfa[at] = DfaRow::new(cells, verdict_of(rule, &table).number());
-        at += 1;
+    let rows = take_rows(rule, &mut known, dfa);
+    if rows.is_none() {
+        known.clear();
+        dfa.fill(DfaRow::blank());
     }
-    Some(at)
+    rows
+}
+
+// The rows alone: where they are more than the places, these have some of them.
+fn take_rows<R: Rule>(
+    rule: &R,
+    known: &mut Register<CrossingTable>,
+    dfa: &mut [DfaRow],
+) -> Option<usize>
+    requires { (held known.old ≡ []) × (length (places known.old) ≡ length dfa.old) × (length dfa.old ≤ 4096) }
+    ensures rows { result ≡ rows_of (R.Rule.meaning rule.now) (length dfa.old) }
+    ensures tables { OnSome result (places known.new ≡ tables_left (R.Rule.meaning rule.now) (length dfa.old) (places known.old)) }
+    ensures dfa { OnSome result (dfa.new ≡ dfa_left (R.Rule.meaning rule.now) (length dfa.old) dfa.old) }
+    ensures long { length (places known.new) ≡ length (places known.old) }
+    ensures lent { known.new.keys.ghost_name ≡ known.old.keys.ghost_name }
+{
+    known.add(empty_table(rule))?;
+    for (at, row) in dfa.iter_mut().enumerate() {
+        let Some(table) = known.get(at) else {
+            break;
+        };
+        let cells = take_row(rule, known, &table)?;
+        *row = DfaRow::new(cells, verdict_of(rule, &table).into());
+    }
+    Some(known.len())
 }
 
 // The cells of a row: for each letter the row of the table that it leads to, which is added if it is new.
@@ -57,20 +72,10 @@ fn take_row<R: Rule>(
     ensures long { length (places known.new) ≡ length (places known.old) }
     ensures lent { known.new.keys.ghost_name ≡ known.old.keys.ghost_name }
 {
-    let mut cells = [0u16; 16];
+    let mut cells = [0; 16];
+    // Not `iter_mut().zip(..)`: std says nothing of what is written through the items of a zip.
     for letter in 0..rule.letters() {
-        let Some(place) = known.add(extended_table(rule, table, letter)) else {
-            return None;
-        };
-        cells[letter as usize] = place as u16;
+        cells[letter as usize] = known.add(extended_table(rule, table, letter))? as u16;
     }
     Some(cells)
-}
-
-fn blank_all(dfa: &mut [DfaRow])
-    ensures { dfa.new ≡ replicate (length dfa.old) blank_row }
-{
-    for row in dfa.iter_mut() {
-        *row = DfaRow::blank();
-    }
 }

@@ -5,10 +5,12 @@
 mod asking;
 mod filling;
 mod rows;
+mod shelf;
 
-pub use asking::{ask, sound_verdict};
+pub use asking::ask;
 pub use filling::{CAPACITY, fill};
 pub use rows::DfaRow;
+pub use shelf::Shelf;
 
 #[cfg(test)]
 mod tests {

@@ -30,7 +30,7 @@ impl DfaRow {
     pub fn cell(&self, letter: usize) -> u16
         ensures { result ≡ slice_index self.now.cells letter }
     {
-        if letter < 16 { self.cells[letter] } else { 0 }
+        self.cells.get(letter).copied().unwrap_or(0)
     }
 
     // The number of the verdict: 1 accepts, 2 rejects, 3 loops; any other is damage.

@@ -88,7 +88,7 @@ module _ (A : Automaton) (law : Lawful A) (p : ℕ) (few : length (known A p) �
         let v = verdict A (tables_at A law (known A p) at) in
         let low = (every A (sound A law) N (tables_at A law (known A p)) cells (closed A law p few) w ww).0 in (
           v,
-          asked_is {X = ℕ} (λ x. x) A.letters N ds w (λ z. omega arith) long_enough ∙ ap (λ o. ok_or o (unplaced DamagedTable)) (follows w ww 0 s),
+          asked_is A.letters N ds w s long_enough ∙ ap (λ o. ok_or o (unplaced DamagedTable)) (follows w ww 0 s),
           ap (λ j. (row_at ds j).verdict) (reached_here w ww 0 s) ∙ ap (λ (d : DfaRow). d.verdict) (row_in at low),
           ask_right A (sound A law) N (tables_at A law (known A p)) cells (closed A law p few) w ww,
         )

@@ -1,10 +1,10 @@
 -- Columns, steps and turns of a walk.
-use Rattle.std.proofs.Common.{◌≡◌, ℕ, zero, suc, ◌+◌, ◌-◌, ◌<◌, ◌≤◌, cond, eqb, ltb, List, map, length, get_or, Ok, Err, sym, refl, ap, ◌∙◌, subst, add-one, arith, le-ltb, lt-ltb, eq-eqb, ne_eqb}
+use Rattle.std.proofs.Common.{◌≡◌, ℕ, zero, suc, ◌+◌, ◌-◌, ◌<◌, ◌≤◌, cond, eqb, ltb, List, map, length, get_or, Ok, Err, sym, ap, ◌∙◌, subst, add-one, arith, le-ltb, lt-ltb, eq-eqb, ne_eqb}
 use native.Mathlib.Decide.{dec_le}
 use Rattle.std.proofs.lemmas.List.{get_or-map, get_or_past, length-map}
 use Rattle.two_way.specs.declared.Verdict.{Verdict}
-use Rattle.two_way.specs.Automaton.{Automaton, Lawful, Way, L, R, right_end, to, way}
-use Rattle.two_way.specs.Runs.{Config, column, step, moved, begin, most}
+use Rattle.two_way.specs.Automaton.{Automaton, Lawful, L, R, right_end, to, way}
+use Rattle.two_way.specs.Runs.{Config, column, step, begin, most}
 use Rattle.two_way.proofs.Loops.{clash}
 use Rattle.two_way.proofs.Sound.{Sound, sound, to_none}
 use Rattle.refusals.specs.declared.fault.Fault.TheVariants.{LettersDiffer, TitleTooLong}
@@ -33,48 +33,25 @@ step_low A law q a s e h = go (dec_le a (right_end A))
     go (yes l) = subst (λ x. x < A.states) (sym e) ((sound A law).inside q a h l)
     go (no n) = subst (λ x. x < A.states) (sym (e ∙ to_none A q a (law.past_columns q a (omega arith)))) h
 
--- a step from state q at position p, which shows the column a: it leads to s in the direction d
-module _ (A : Automaton) (law : Sound A) {X : Type 0} (letter : X → ℕ) (ms : List X) (q p a s d : ℕ)
-    (col : a ≡ column A (map letter ms) p) (GoesTo : s ≡ to A q a) (goes_way : way A q a ≡ cond (eqb d 1) R L) where
-  goes_R : d ≡ 1 → way A q a ≡ R
-  goes_R e = goes_way ∙ ap (λ b. cond b R L) (eq-eqb d 1 e)
-
-  goes_L : (d ≡ 1 → ⊥) → way A q a ≡ L
-  goes_L n = goes_way ∙ ap (λ b. cond b R L) (ne_eqb d 1 n)
-
+-- a step from state q at position p, which shows the column a
+module _ (A : Automaton) (law : Sound A) {X : Type 0} (letter : X → ℕ) (ms : List X) (q p a : ℕ) (col : a ≡ column A (map letter ms) p) (low : q < A.states) where
   -- the left end is never left to the left
-  pub not_left : q < A.states → (d ≡ 1 → ⊥) → 0 < p
-  not_left h n = go p col
+  pub not_left : way A q a ≡ L → 0 < p
+  not_left w = go p col
     where
       go : (p : ℕ) → a ≡ column A (map letter ms) p → 0 < p
-      go zero e =
-          let r : way A q a ≡ R = ap (way A q) e ∙ law.left_gives_R q h in
-          let l = goes_L n in clash cc
+      go zero e = let r : way A q a ≡ R = ap (way A q) e ∙ law.left_gives_R q low in clash cc
       go (suc i) e = omega arith
 
   -- nor the right end to the right
-  pub not_right : q < A.states → p ≤ length ms + 1 → d ≡ 1 → p ≤ length ms
-  not_right h k e = go (dec_le p (length ms))
+  pub not_right : way A q a ≡ R → p ≤ length ms + 1 → p ≤ length ms
+  not_right r k = go (dec_le p (length ms))
     where
       go : Dec (p ≤ length ms) → p ≤ length ms
       go (yes l) = l
       go (no l) =
           let z : a ≡ right_end A = col ∙ sym (col_out A letter ms p (omega arith)) in
-          let w : way A q a ≡ L = ap (way A q) z ∙ law.right_gives_L q h in
-          let r = goes_R e in clash cc
-
-  stepped : (p' : ℕ) (w : Way) → way A q a ≡ w → p' ≡ moved w p → record { state = s; place = p' } ≡ step A (column A (map letter ms)) (record { state = q; place = p })
-  stepped p' w e f i =
-      record {
-        state = (GoesTo ∙ ap (to A q) col) i;
-        place = (f ∙ ap (λ v. moved v p) (sym e ∙ ap (way A q) col)) i;
-      }
-
-  pub stepped_R : d ≡ 1 → record { state = s; place = p + 1 } ≡ step A (column A (map letter ms)) (record { state = q; place = p })
-  stepped_R e = stepped (p + 1) R (goes_R e) (add-one p)
-
-  pub stepped_L : (d ≡ 1 → ⊥) → record { state = s; place = p - 1 } ≡ step A (column A (map letter ms)) (record { state = q; place = p })
-  stepped_L n = stepped (p - 1) L (goes_L n) refl
+          let w : way A q a ≡ L = ap (way A q) z ∙ law.right_gives_L q low in clash cc
 
 module _ (A : Automaton) (c : ℕ → ℕ) (limit n : ℕ) (x : Config) (more : n < limit + 1) where
   left : limit + 1 - n ≡ suc (limit - n)

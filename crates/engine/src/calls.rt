@@ -76,12 +76,9 @@ impl<R: Rule, L: Alphabet> Engine<R, L> {
         if self.rule.letters() != self.alphabet.letters() {
             return Err(Refusal::unplaced(Fault::LettersDiffer));
         }
-        let Some(rows) = fill(&self.rule, tables, dfa) else {
-            self.rows = 0;
-            return Err(Refusal::unplaced(Fault::TooFewPlaces));
-        };
-        self.rows = rows;
-        Ok(rows)
+        let rows = fill(&self.rule, tables, dfa);
+        self.rows = rows.unwrap_or(0);
+        rows.ok_or(Refusal::unplaced(Fault::TooFewPlaces))
     }
 
     // The verdict of the row that the marks lead to, each mark read once, from the first to the last.

@@ -3,6 +3,7 @@
 #![tactic(auto)]
 
 ghost use Rattle.std.specs.Prelude.{◌≡◌, map};
+ghost use Rattle.two_way.specs.Verdicts.{number_of};
 ghost use Rattle.alphabets.specs.Plain.{letter_count, plain_letter};
 ghost use Rattle.dfa.specs.Asked.{asked};
 ghost use Rattle.spelling.specs.Reading.{sheet_read};
@@ -26,12 +27,34 @@ pub struct Place {
     pub field: u8,
 }
 
+impl From<Refusal> for Place {
+    ghost from_gives = { λ refusal place. place ≡ record { line = refusal.line; field = refusal.field } };
+
+    fn from(refusal: Refusal) -> Place {
+        Place {
+            line: refusal.line,
+            field: refusal.field,
+        }
+    }
+}
+
 // What a walk found: the verdict's number and the steps.
 #[repr(C)]
 #[derive(Clone, Copy)]
 pub struct Walk {
     pub verdict: u8,
     pub steps: u32,
+}
+
+impl From<Walked> for Walk {
+    ghost from_gives = { λ walked walk. walk ≡ record { verdict = number_of walked.verdict; steps = walked.steps } };
+
+    fn from(walked: Walked) -> Walk {
+        Walk {
+            verdict: u8::from(walked.verdict),
+            steps: walked.steps,
+        }
+    }
 }
 
 // Folds a sheet: its listing's length, or the number and the place of the refusal.
@@ -55,11 +78,8 @@ pub extern "C" fn cetskvali_fold(
             0
         }
         Err(refusal) => {
-            *place = Place {
-                line: refusal.line,
-                field: refusal.field,
-            };
-            refusal.fault.number()
+            *place = Place::from(refusal);
+            u8::from(refusal.fault)
         }
     }
 }
@@ -78,10 +98,10 @@ pub extern "C" fn cetskvali_ask(
 {
     match ask(&PlainLetters::new(letters), rows, dfa, marks) {
         Ok(found) => {
-            *verdict = found.number();
+            *verdict = u8::from(found);
             0
         }
-        Err(refusal) => refusal.fault.number(),
+        Err(refusal) => u8::from(refusal.fault),
     }
 }
 
@@ -99,18 +119,12 @@ pub extern "C" fn cetskvali_walk(
 {
     match read_and_walk(sheet, marks) {
         Ok(walked) => {
-            *walk = Walk {
-                verdict: walked.verdict.number(),
-                steps: walked.steps,
-            };
+            *walk = Walk::from(walked);
             0
         }
         Err(refusal) => {
-            *place = Place {
-                line: refusal.line,
-                field: refusal.field,
-            };
-            refusal.fault.number()
+            *place = Place::from(refusal);
+            u8::from(refusal.fault)
         }
     }
 }

@@ -5,7 +5,7 @@
 use dfa::DfaRow;
 use folding::fold_sheet;
 use loading::LONGEST;
-use register::CrossingTable;
+use register::{Blank, CrossingTable};
 use std::io;
 use std::io::{Read, Write};
 
@@ -32,10 +32,10 @@ fn read_input(rt: &HostRuntime) -> anyhow::Result<Vec<u8>> {
     Ok(sheet)
 }
 
-fn run(rt: &HostRuntime) -> anyhow::Result<()> {
+fn main(rt: HostRuntime) -> anyhow::Result<()> {
     let heap = rt.alloc();
-    let sheet = read_input(rt)?;
-    let mut tables = vec![in heap; CrossingTable::new([255; 33]); PLACES]?;
+    let sheet = read_input(&rt)?;
+    let mut tables = vec![in heap; CrossingTable::blank(); PLACES]?;
     let mut dfa = vec![in heap; DfaRow::blank(); PLACES]?;
     let mut out = vec![in heap; 0; ROOM]?;
     match fold_sheet(&sheet, &mut tables, &mut dfa, &mut out) {
@@ -46,8 +46,4 @@ fn run(rt: &HostRuntime) -> anyhow::Result<()> {
         Err(refusal) => rt.print(refusal.line(heap)?)?,
     }
     Ok(())
-}
-
-fn main(rt: HostRuntime) -> anyhow::Result<()> {
-    run(&rt)
 }

@@ -6,6 +6,7 @@ use Rattle.refusals.specs.declared.refusal.Refusal.{Refusal}
 use Rattle.refusals.specs.Line.{unplaced}
 use Rattle.text.specs.Output.{room, put}
 use Rattle.dfa.specs.declared.rows.DfaRow.{DfaRow}
+use Rattle.dfa.specs.declared.shelf.Shelf.{Shelf}
 use Rattle.dfa.specs.Asked.{verdict_in, row_at}
 use Rattle.listings.specs.Listing.{listing}
 
@@ -17,6 +18,10 @@ sound n m ds (suc k) = sound n m ds k && is_some (verdict_in m n (row_at ds k))
 -- the rows are fewer than those in use, or one in use is not sound
 abbrev pub damaged : ℕ → ℕ → List DfaRow → Bool
 damaged n m ds = nat_lt (length ds) n || not (sound n m ds n)
+
+-- the listing of a shelf
+abbrev pub shelf_listing : Shelf → List ℕ
+shelf_listing s = listing (length s.rows.now) s.letters s.rows.now
 
 -- refused by 13, 16 and 19 in this order, or how many bytes are written
 abbrev pub listed_answer : ℕ → ℕ → List DfaRow → List ℕ → Result ℕ Refusal

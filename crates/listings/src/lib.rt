@@ -2,19 +2,21 @@
 
 #![tactic(auto)]
 
-ghost use Rattle.std.specs.Prelude.{◌≡◌, ◌≤◌, length, OnOk};
+ghost use Rattle.std.specs.Prelude.{◌≡◌, length, OnOk};
 ghost use Rattle.text.specs.Output.{room, put};
-ghost use Rattle.listings.specs.Listing.{listing, ListedAlone};
-ghost use Rattle.listings.specs.Listed.{sound, listed_answer, listed_bytes};
+ghost use Rattle.listings.specs.Listing.{ListedAlone};
+ghost use Rattle.listings.specs.Listed.{sound, shelf_listing, listed_answer, listed_bytes};
 
 mod lines;
+mod writing;
 
 use alphabets::Alphabet;
-use dfa::{DfaRow, sound_verdict};
+use dfa::{DfaRow, Shelf};
 use engine::Engine;
 use lines::put_listing;
 use refusals::{Fault, Refusal};
 use rules::Rule;
+use writing::Writer;
 
 // Writes the listing of the engine's rows in use, and answers how many bytes it has.
 pub fn write_listing<R: Rule, L: Alphabet>(
@@ -40,45 +42,30 @@ pub fn write_rows(
     ensures out { out.new ≡ listed_bytes rows letters dfa.now out.old }
     ensures law { OnOk result (ListedAlone rows letters dfa.now) }
 {
-    write_sound(rows, letters, dfa, out)
-}
-
-// The call itself: the conditions are looked for in the order of their numbers.
-fn write_sound(rows: usize, letters: u8, dfa: &[DfaRow], out: &mut [u8]) -> Result<usize, Refusal>
-    ensures answer { result ≡ listed_answer rows letters dfa.now out.old }
-    ensures out { out.new ≡ listed_bytes rows letters dfa.now out.old }
-{
-    if rows == 0 {
-        return Err(Refusal::unplaced(Fault::NoRows));
-    }
-    if dfa.len() < rows || !all_sound(rows, letters, dfa) {
+    let shelf = Shelf::new(rows, letters, dfa)?;
+    if !is_sound(&shelf) {
         return Err(Refusal::unplaced(Fault::DamagedTable));
     }
-    write_all(rows, letters, dfa, out).ok_or(Refusal::unplaced(Fault::ListingTooLong))
+    write_all(&shelf, out).ok_or(Refusal::unplaced(Fault::ListingTooLong))
 }
 
-// Whether each row in use has a verdict and leads to rows in use.
-fn all_sound(rows: usize, letters: u8, dfa: &[DfaRow]) -> bool
-    requires { rows ≤ length dfa.now }
-    ensures { result ≡ sound rows letters dfa.now rows }
+// Whether each row has a verdict and leads to rows of the shelf.
+fn is_sound(shelf: &Shelf) -> bool
+    ensures { result ≡ sound (length shelf.now.rows.now) shelf.now.letters shelf.now.rows.now (length shelf.now.rows.now) }
 {
-    for row in &dfa[0..rows] {
-        if sound_verdict(row, letters as usize, rows).is_none() {
-            return false;
-        }
-    }
-    true
+    shelf.rows().iter().all(|row| shelf.verdict(row).is_some())
 }
 
 // How many bytes were written; none, and nothing is, where they are too many.
-fn write_all(rows: usize, letters: u8, dfa: &[DfaRow], out: &mut [u8]) -> Option<usize>
-    requires { rows ≤ length dfa.now }
-    ensures answer { result ≡ room (listing rows letters dfa.now) out.old }
-    ensures after { out.new ≡ put (listing rows letters dfa.now) out.old }
+fn write_all(shelf: &Shelf, out: &mut [u8]) -> Option<usize>
+    ensures answer { result ≡ room (shelf_listing shelf.now) out.old }
+    ensures after { out.new ≡ put (shelf_listing shelf.now) out.old }
 {
     let room = out.len();
-    put_listing(rows, letters, dfa, room, &mut [])?;
-    put_listing(rows, letters, dfa, room, out)
+    put_listing(shelf, &mut Writer::new(room, &mut []))?;
+    let mut writer = Writer::new(room, out);
+    put_listing(shelf, &mut writer)?;
+    Some(writer.len())
 }
 
 #[cfg(test)]
@@ -93,7 +80,7 @@ mod tests {
     fn refused(rows: usize, dfa: &[DfaRow], out: &mut [u8]) -> u8 {
         match write_rows(rows, 1, dfa, out) {
             Ok(_) => 0,
-            Err(refusal) => refusal.fault.number(),
+            Err(refusal) => refusal.fault.into(),
         }
     }
 

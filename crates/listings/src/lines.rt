@@ -1,110 +1,60 @@
-// The lines of a listing, put at a place of a slice: the answer is where the text ends, none if that is past the room.
-// A piece that ends past the slice is counted and not written, so that the same calls measure and write.
-ghost use Rattle.std.specs.Prelude.{◌≡◌, ◌≤◌, ◌∷◌, length, if◌then◌else◌, Some, None, decimal, nat_le};
+// The lines of a listing.
+ghost use Rattle.std.specs.Prelude.{◌∷◌, length, decimal};
 ghost use Rattle.std.specs.List.{range_with_len, flat_map};
-ghost use Rattle.text.specs.Output.{put};
 ghost use Rattle.text.specs.Parts.{tab};
 ghost use Rattle.dfa.specs.Asked.{row_at};
-ghost use Rattle.listings.specs.Listing.{line, cell_of, head_fields, row_fields, listing};
-ghost use Rattle.listings.specs.Placed.{Placed};
+ghost use Rattle.listings.specs.Listing.{line, cell_of, head_fields, row_fields};
+ghost use Rattle.listings.specs.Listed.{shelf_listing};
+ghost use Rattle.listings.specs.Placed.{Placed, Continues};
 
-use dfa::DfaRow;
-use text::write_number;
+use crate::writing::Writer;
+use dfa::{DfaRow, Shelf};
 
-// A tab and the digits of the largest number.
-const LONGEST_FIELD: usize = 21;
-
-pub(crate) fn put_listing(
-    rows: usize,
-    letters: u8,
-    dfa: &[DfaRow],
-    room: usize,
-    out: &mut [u8],
-) -> Option<usize>
-    requires { rows ≤ length dfa.now }
-    ensures answer { result ≡ (if nat_le (length (listing rows letters dfa.now)) room then Some (length (listing rows letters dfa.now)) else None) }
-    ensures after { length (listing rows letters dfa.now) ≤ room → length (listing rows letters dfa.now) ≤ length out.old → out.new ≡ put (listing rows letters dfa.now) out.old }
+pub(crate) fn put_listing(shelf: &Shelf, writer: &mut Writer) -> Option<()>
+    ensures placed { Placed writer.old (shelf_listing shelf.now) result writer.new }
+    ensures continues { Continues writer.old writer.new }
 {
-    let at = put_head(rows, letters, room, out)?;
-    put_rows(rows, letters, dfa, at, room, out)
+    put_head(shelf, writer)?;
+    put_rows(shelf, writer)
 }
 
-fn put_head(rows: usize, letters: u8, room: usize, out: &mut [u8]) -> Option<usize>
-    ensures { Placed room 0 (line (head_fields rows letters)) out.old result out.new }
+fn put_head(shelf: &Shelf, writer: &mut Writer) -> Option<()>
+    ensures placed { Placed writer.old (line (head_fields (length shelf.now.rows.now) shelf.now.letters)) result writer.new }
+    ensures continues { Continues writer.old writer.new }
 {
-    let at = put_bytes(b"shelf", 0, room, out)?;
-    let at = put_field(rows as u64, at, room, out)?;
-    let at = put_field(letters as u64, at, room, out)?;
-    put_bytes(b"\n", at, room, out)
+    writer.put(b"shelf")?;
+    writer.put_field(shelf.rows().len() as u64)?;
+    writer.put_field(shelf.letters() as u64)?;
+    writer.put(b"\n")
 }
 
-fn put_rows(
-    rows: usize,
-    letters: u8,
-    dfa: &[DfaRow],
-    at: usize,
-    room: usize,
-    out: &mut [u8],
-) -> Option<usize>
-    requires { (rows ≤ length dfa.now) × (at ≤ room) }
-    ensures { Placed room at (flat_map (λ i. line (row_fields letters i (row_at dfa.now i))) (range_with_len 0 rows)) out.old result out.new }
+fn put_rows(shelf: &Shelf, writer: &mut Writer) -> Option<()>
+    ensures placed { Placed writer.old (flat_map (λ i. line (row_fields shelf.now.letters i (row_at shelf.now.rows.now i))) (range_with_len 0 (length shelf.now.rows.now))) result writer.new }
+    ensures continues { Continues writer.old writer.new }
 {
-    let mut end = at;
-    for (i, row) in dfa[0..rows].iter().enumerate() {
-        end = put_row(i, row, letters, end, room, out)?;
+    for (number, row) in shelf.rows().iter().enumerate() {
+        put_row(number, row, shelf.letters(), writer)?;
     }
-    Some(end)
+    Some(())
 }
 
-fn put_row(
-    number: usize,
-    row: &DfaRow,
-    letters: u8,
-    at: usize,
-    room: usize,
-    out: &mut [u8],
-) -> Option<usize>
-    requires { at ≤ room }
-    ensures { Placed room at (line (row_fields letters number row.now)) out.old result out.new }
+fn put_row(number: usize, row: &DfaRow, letters: u8, writer: &mut Writer) -> Option<()>
+    ensures placed { Placed writer.old (line (row_fields letters number row.now)) result writer.new }
+    ensures continues { Continues writer.old writer.new }
 {
-    let at = put_bytes(b"row", at, room, out)?;
-    let at = put_field(number as u64, at, room, out)?;
-    let at = put_field(row.verdict() as u64, at, room, out)?;
-    let at = put_cells(row, letters, at, room, out)?;
-    put_bytes(b"\n", at, room, out)
+    writer.put(b"row")?;
+    writer.put_field(number as u64)?;
+    writer.put_field(row.verdict() as u64)?;
+    put_cells(row, letters, writer)?;
+    writer.put(b"\n")
 }
 
-fn put_cells(row: &DfaRow, letters: u8, at: usize, room: usize, out: &mut [u8]) -> Option<usize>
-    requires { at ≤ room }
-    ensures { Placed room at (flat_map (λ a. tab ∷ decimal (cell_of row.now a)) (range_with_len 0 letters)) out.old result out.new }
+fn put_cells(row: &DfaRow, letters: u8, writer: &mut Writer) -> Option<()>
+    ensures placed { Placed writer.old (flat_map (λ a. tab ∷ decimal (cell_of row.now a)) (range_with_len 0 letters)) result writer.new }
+    ensures continues { Continues writer.old writer.new }
 {
-    let mut end = at;
     for letter in 0..letters {
-        end = put_field(row.cell(letter as usize) as u64, end, room, out)?;
+        writer.put_field(row.cell(letter as usize) as u64)?;
     }
-    Some(end)
-}
-
-// A tab and a number.
-fn put_field(n: u64, at: usize, room: usize, out: &mut [u8]) -> Option<usize>
-    requires { at ≤ room }
-    ensures { Placed room at (tab ∷ decimal n) out.old result out.new }
-{
-    let mut field = [b'\t'; LONGEST_FIELD];
-    let digits = write_number(n, &mut field[1..LONGEST_FIELD]).unwrap();
-    put_bytes(&field[0..digits + 1], at, room, out)
-}
-
-fn put_bytes(bytes: &[u8], at: usize, room: usize, out: &mut [u8]) -> Option<usize>
-    requires { at ≤ room }
-    ensures { Placed room at bytes.now out.old result out.new }
-{
-    if bytes.len() > room - at {
-        return None;
-    }
-    let end = at + bytes.len();
-    if end <= out.len() {
-        out[at..end].copy_from_slice(bytes);
-    }
-    Some(end)
+    Some(())
 }

@@ -20,7 +20,7 @@ use crate::states::States;
 use crate::words::{Entry, Header};
 use refusals::{Fault, Refusal};
 use register::Name;
-use rules::{Direction, Move, StoredRule};
+use rules::{Direction, Move, Numbers, StoredRule};
 
 // The steps given so far: that of a state at a column at place 18 * state + column.
 #[derive(Drop)]
@@ -205,16 +205,15 @@ impl<'a> Draft<'a> {
                 field: 0,
             });
         }
-        // The lines before were not refused, so the rule keeps the laws.
-        let rule = StoredRule::from_steps(
+        let numbers = Numbers {
             states,
-            self.header.letters,
-            self.start,
-            self.accept,
-            self.reject,
-            &self.table(),
-        )
-        .unwrap();
+            letters: self.header.letters,
+            start: self.start,
+            accept: self.accept,
+            reject: self.reject,
+        };
+        // The lines before were not refused, so the rule keeps the laws.
+        let rule = StoredRule::from_steps(numbers, &self.table()).unwrap();
         Ok(rule)
     }
 }

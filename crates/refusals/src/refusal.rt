@@ -4,6 +4,7 @@ ghost use Rattle.refusals.specs.Line.{unplaced, told_as, refusal_line, ToldAlone
 
 use crate::fault::Fault;
 use std::alloc::{AllocError, Global};
+use std::error::Error;
 use std::fmt;
 
 // The condition that was met, and its line and field, counted from 1; 0 where there is none.
@@ -31,12 +32,6 @@ impl Refusal {
         ensures text { IfOk result (λ t. string_bytes t ≡ refusal_line self) }
         ensures law { ToldAlone self }
     {
-        self.written(heap)
-    }
-
-    fn written(self, heap: Global) -> Result<String, AllocError>
-        ensures { IfOk result (λ t. string_bytes t ≡ refusal_line self) }
-    {
         format!(in heap; "{self}\n")
     }
 }
@@ -53,3 +48,6 @@ impl fmt::Display for Refusal {
         write!(f, "refused\t{number}\t{line}\t{field}\t{layer}")
     }
 }
+
+// So that `?` hands a refusal on where any error is taken.
+impl Error for Refusal {}

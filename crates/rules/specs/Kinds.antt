@@ -9,7 +9,7 @@ use Rattle.rules.specs.declared.pair.PairRule.{PairRule}
 use Rattle.rules.specs.declared.stored.StoredRule.{StoredRule}
 
 abbrev pub of_stored : StoredRule → Automaton
-of_stored x = stored x.states x.letters x.start x.accept x.reject x.steps
+of_stored x = let n = x.numbers in stored n.states n.letters n.start n.accept n.reject x.steps
 
 -- a rule that means A exactly when A is lawful, and else none
 abbrev pub Loaded : Automaton → Option StoredRule → Type 0

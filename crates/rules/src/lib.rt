@@ -7,13 +7,14 @@ ghost use Rattle.std.specs.Prelude.{◌+◌, ◌-◌, if◌then◌else◌, nat_e
 ghost use Rattle.rules.specs.Steps.{automaton, onward};
 ghost use Rattle.std.proofs.Common.{rules};
 
-mod bounds;
 mod distance;
+mod numbers;
 mod pair;
 mod rule;
 mod stored;
 
 pub use distance::DistanceRule;
+pub use numbers::Numbers;
 pub use pair::PairRule;
 pub use rule::{Direction, Move, Rule, step};
 pub use stored::StoredRule;
@@ -93,23 +94,24 @@ mod tests {
         steps[20] = (1, 0);
         steps[37] = (2, 1);
         steps[38] = (1, 0);
-        let Some(rule) = StoredRule::from_steps(3, 1, 2, 0, 1, &steps) else {
-            assert!(rt; false);
-            return Ok(());
+        let numbers = Numbers {
+            states: 3,
+            letters: 1,
+            start: 2,
+            accept: 0,
+            reject: 1,
         };
+        let rule = StoredRule::from_steps(numbers, &steps).ok_or("no rule")?;
         assert_eq!(rt; run(&rule, &[1, 0, 2]), Some(true));
         assert_eq!(rt; run(&rule, &[1, 2]), Some(false));
         steps[38] = (1, 1);
-        assert!(rt; StoredRule::from_steps(3, 1, 2, 0, 1, &steps).is_none());
+        assert!(rt; StoredRule::from_steps(numbers, &steps).is_none());
         Ok(())
     }
 
     #[test]
     fn a_users_rule_goes_into_a_pair(rt: HostRuntime) -> Result<(), Fail> {
-        let Ok(second) = DistanceRule::new(2, 2, 0b10) else {
-            assert!(rt; false);
-            return Ok(());
-        };
+        let second = DistanceRule::new(2, 2, 0b10)?;
         assert_eq!(rt; run(&second, &[2, 1, 3]), Some(false));
         let pair = PairRule::new(EvenRule, second);
         assert!(rt; pair.check().is_ok());
@@ -121,19 +123,9 @@ mod tests {
 
     #[test]
     fn a_pair_of_34_states_does_not_fit(rt: HostRuntime) -> Result<(), Fail> {
-        let Ok(rule) = DistanceRule::new(14, 2, 1) else {
-            assert!(rt; false);
-            return Ok(());
-        };
-        match PairRule::new(rule, rule).check() {
-            Ok(()) => {
-                assert!(rt; false);
-                Ok(())
-            },
-            Err(refusal) => {
-                assert_eq!(rt; u8::from(refusal.fault), 17);
-                Ok(())
-            },
-        }
+        let rule = DistanceRule::new(14, 2, 1)?;
+        let checked = PairRule::new(rule, rule).check();
+        assert_eq!(rt; checked.map_err(|refusal| u8::from(refusal.fault)), Err(17));
+        Ok(())
     }
 }

@@ -45,16 +45,11 @@ impl<A: Rule, B: Rule> PairRule<A, B> {
         ensures answer { result ≡ checked (fits (A.Rule.meaning self.now.first) (B.Rule.meaning self.now.second)) }
         ensures law { PairLaw (A.Rule.meaning self.now.first) (B.Rule.meaning self.now.second) }
     {
-        self.refuse_misfit()
-    }
-
-    fn refuse_misfit(&self) -> Result<(), Refusal>
-        ensures { result ≡ checked (fits (A.Rule.meaning self.now.first) (B.Rule.meaning self.now.second)) }
-    {
         if self.fits() {
-            return Ok(());
+            Ok(())
+        } else {
+            Err(Refusal::unplaced(Fault::PairMisfit))
         }
-        Err(Refusal::unplaced(Fault::PairMisfit))
     }
 
     fn fits(&self) -> bool

@@ -1,16 +1,15 @@
 ghost use Rattle.rules.specs.Steps.{at, Sizes, Kept};
 
+use crate::numbers::Numbers;
+
 pub mod answers;
 
 // A rule that holds its steps: step `column` of state `state` at place 18 * state + column.
+// They are held as they are given, directions as numbers, since those past the states and the columns may be no direction.
 #[derive(Clone, Copy, Debug)]
 pub struct StoredRule {
-    states: u8,
-    letters: u8,
-    start: u8,
-    accept: u8,
-    reject: u8,
+    numbers: Numbers,
     steps: [(u8, u8); 576],
-    ghost sizes: { Sizes states letters start accept reject },
-    ghost kept: { Kept states letters accept reject (at steps) },
+    ghost sizes: { Sizes numbers.states numbers.letters numbers.start numbers.accept numbers.reject },
+    ghost kept: { Kept numbers.states numbers.letters numbers.accept numbers.reject (at steps) },
 }

@@ -4,7 +4,7 @@
 
 use dfa::DfaRow;
 use folding::fold_sheet;
-use register::CrossingTable;
+use register::{Blank, CrossingTable};
 use std::alloc::{AllocError, Global};
 use std::{env, fs};
 
@@ -14,7 +14,7 @@ const ROOM: usize = 1_048_576;
 
 // The listing of a sheet, or the line that tells why it is refused.
 fn folded(heap: Global, sheet: &[u8]) -> Result<Vec<u8>, AllocError> {
-    let mut tables = vec![in heap; CrossingTable::new([255; 33]); PLACES]?;
+    let mut tables = vec![in heap; CrossingTable::blank(); PLACES]?;
     let mut dfa = vec![in heap; DfaRow::blank(); PLACES]?;
     let mut out = vec![in heap; 0; ROOM]?;
     match fold_sheet(sheet, &mut tables, &mut dfa, &mut out) {
@@ -36,13 +36,9 @@ fn compare(rt: &HostRuntime, stem: &str) -> anyhow::Result<()> {
     Ok(())
 }
 
-fn run(rt: &HostRuntime) -> anyhow::Result<()> {
-    for stem in env::args(rt)?.skip(1) {
-        compare(rt, stem.as_str())?;
+fn main(rt: HostRuntime) -> anyhow::Result<()> {
+    for stem in env::args(&rt)?.skip(1) {
+        compare(&rt, stem.as_str())?;
     }
     Ok(())
-}
-
-fn main(rt: HostRuntime) -> anyhow::Result<()> {
-    run(&rt)
 }

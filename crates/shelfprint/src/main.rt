@@ -5,7 +5,7 @@
 use sheets::{LONGEST, check_form};
 use std::io::Read;
 
-fn run(rt: &HostRuntime) -> anyhow::Result<()> {
+fn main(rt: HostRuntime) -> anyhow::Result<()> {
     let mut sheet = Vec::new(rt.alloc());
     // One byte past the longest sheet shows that it is too long, however much follows.
     rt.stdin().take(LONGEST as u64 + 1).read_to_end(&mut sheet)?;
@@ -13,8 +13,4 @@ fn run(rt: &HostRuntime) -> anyhow::Result<()> {
         rt.print(refusal.line(rt.alloc())?)?;
     }
     Ok(())
-}
-
-fn main(rt: HostRuntime) -> anyhow::Result<()> {
-    run(&rt)
 }

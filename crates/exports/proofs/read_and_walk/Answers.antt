@@ -13,6 +13,6 @@ returns c =
     let rule = c.in_ok-rule.rule in
     let marks = c.args.marks.now in
     let letters : c.new.result.count ≡ (of_stored rule).letters =
-    c.new.ensures ∙ (ap letter_count c.letters.ensures ∙ plain_count rule.letters rule.sizes.0.2 rule.sizes.0.3) in
+    c.new.ensures ∙ (ap letter_count c.letters.ensures ∙ plain_count rule.numbers.letters rule.sizes.0.2 rule.sizes.0.3) in
     c.walk.ensures ∙ ((λ i. walk_answer (of_stored rule) (letters i) (map (plain_letter (letters i)) marks))
     ∙ ap (λ (t : Result Automaton Refusal). walked_read t marks) c.in_ok-rule.ensures.answer)

@@ -8,7 +8,7 @@ pub returns : goal.returns
 returns c =
     let rule = c.in_ok-rule.rule in
     let letters : c.new.result.count ≡ (of_stored rule).letters =
-    c.new.ensures ∙ (ap letter_count c.letters.ensures ∙ plain_count rule.letters rule.sizes.0.2 rule.sizes.0.3) in
+    c.new.ensures ∙ (ap letter_count c.letters.ensures ∙ plain_count rule.numbers.letters rule.sizes.0.2 rule.sizes.0.3) in
     fold_done c.args.sheet.now rule c.new.result c.new-engine.result c.build.new.self
     (record { tables = c.args.tables.now; dfa = c.args.dfa.now; out = c.args.out.now })
     c.in_ok-build.field-0 c.build.new.tables c.build.new.dfa c.write_listing.result c.write_listing.new.out

@@ -7,7 +7,7 @@ ghost use Rattle.rules.specs.Kinds.{of_stored, Loaded};
 ghost use Rattle.std.proofs.Common.{rules, arith};
 
 use super::StoredRule;
-use crate::bounds::Bounds;
+use crate::numbers::{Numbers, step_at};
 use crate::rule::{Direction, Move, Rule};
 
 // Both states keep themselves: R at the letter and the left end, L at the right end.
@@ -30,41 +30,24 @@ impl StoredRule {
     {
         let steps = blank_steps();
         StoredRule {
-            states: 2,
-            letters: 1,
-            start: 1,
-            accept: 0,
-            reject: 1,
+            numbers: Numbers {
+                states: 2,
+                letters: 1,
+                start: 1,
+                accept: 0,
+                reject: 1,
+            },
             steps,
         }
     }
 
-    // The rule with these answers, where they keep the laws. Steps past the states and the columns are not looked at.
-    pub fn from_steps(
-        states: u8,
-        letters: u8,
-        start: u8,
-        accept: u8,
-        reject: u8,
-        steps: &[(u8, u8); 576],
-    ) -> Option<StoredRule>
-        ensures { Loaded (stored states letters start accept reject steps.now) result }
+    // The rule with these numbers and steps, where they keep the laws. Steps past the states and the columns are not looked at.
+    pub fn from_steps(numbers: Numbers, steps: &[(u8, u8); 576]) -> Option<StoredRule>
+        ensures { Loaded (stored numbers.states numbers.letters numbers.start numbers.accept numbers.reject steps.now) result }
     {
-        let bounds = Bounds {
-            states,
-            letters,
-            accept,
-            reject,
-        };
-        if bounds.keep_laws(start, steps) {
-            Some(StoredRule {
-                states,
-                letters,
-                start,
-                accept,
-                reject,
-                steps: *steps,
-            })
+        if numbers.keep_laws(steps) {
+            let steps = *steps;
+            Some(StoredRule { numbers, steps })
         } else {
             None
         }
@@ -77,30 +60,30 @@ impl Rule for StoredRule {
     ghost lawful = { first_of (Prim.search rules, Prim.grind (arith, Self.row.coded.inj)) };
 
     fn states(&self) -> u8 {
-        self.states
+        self.numbers.states
     }
 
     fn letters(&self) -> u8 {
-        self.letters
+        self.numbers.letters
     }
 
     fn start(&self) -> u8 {
-        self.start
+        self.numbers.start
     }
 
     fn accept(&self) -> u8 {
-        self.accept
+        self.numbers.accept
     }
 
     fn reject(&self) -> u8 {
-        self.reject
+        self.numbers.reject
     }
 
     fn next(&self, state: u8, column: u8) -> Option<Move> {
-        if state >= self.states || column >= self.letters + 2 {
+        if state >= self.numbers.states || column >= self.numbers.letters + 2 {
             return None;
         }
-        let (to, direction) = self.steps[state as usize * 18 + column as usize];
+        let (to, direction) = step_at(&self.steps, state, column);
         Some(Move {
             to,
             direction: if direction == 1 {

@@ -1,29 +1,26 @@
-use Rattle.std.proofs.Common.{ℕ, List, [], ◌∷◌, ◌++◌, Some, codes, decimal, subst, arith}
+use Rattle.std.proofs.Common.{ℕ, List, [], ◌∷◌, ◌++◌, length, Some, codes, decimal, subst}
 use Rattle.text.specs.Parts.{tab, line_feed}
-use Rattle.listings.specs.Listing.{line, head_fields}
 use Rattle.listings.specs.Placed.{Placed}
-use Rattle.listings.proofs.Placing.{placed_more, placed_past}
-use Rattle.listings.proofs.Spelling.{head_text, head_long}
+use Rattle.listings.proofs.Placing.{placed_more, goes_on}
+use Rattle.listings.proofs.Spelling.{head_text}
 use Rattle.listings.proofs.lines.put_head.Goals as goal
 
-pub returns-in_err-at-2 : goal.returns-in_err-at-2
-returns-in_err-at-2 c =
-    placed_past c.args.room 0 (line (head_fields c.args.rows c.args.letters)) c.args.out.now c.put_field.new.out c.from_residual-in_err-at-2.result c.from_residual-in_err-at-2.ensures
-    (omega (arith, head_long c.args.rows c.args.letters, c.in_ok-at.ensures.0, c.in_err-at-2.ensures))
-
-pub returns-in_err-at-3 : goal.returns-in_err-at-3
-returns-in_err-at-3 c =
-    placed_past c.args.room 0 (line (head_fields c.args.rows c.args.letters)) c.args.out.now c.put_field-2.new.out c.from_residual-in_err-at-3.result c.from_residual-in_err-at-3.ensures
-    (omega (arith, head_long c.args.rows c.args.letters, c.in_ok-at.ensures.0, c.in_ok-at-2.ensures.0, c.in_err-at-3.ensures))
-
-pub returns : goal.returns
-returns c =
-    let room = c.args.room in
-    let out = c.args.out.now in
+pub returns-clause-placed : goal.returns-clause-placed
+returns-clause-placed c =
+    let u = c.args.writer.now in
+    let s = c.args.shelf.now in
+    let field = λ (k : ℕ). tab ∷ decimal k in
     let word = codes "shelf" in
-    let n = tab ∷ decimal c.args.rows in
-    let m = tab ∷ decimal c.args.letters in
-    let two = placed_more room 0 c.in_ok-at.at word n out c.put_bytes.new.out c.put_field.new.out (Some c.in_ok-at-2.at) (omega arith) c.in_ok-at.ensures c.in_ok-at-2.ensures in
-    let three = placed_more room 0 c.in_ok-at-2.at (word ++ n) m out c.put_field.new.out c.put_field-2.new.out (Some c.in_ok-at-3.at) (omega arith) two c.in_ok-at-3.ensures in
-    let four = placed_more room 0 c.in_ok-at-3.at ((word ++ n) ++ m) (line_feed ∷ []) out c.put_field-2.new.out c.put_bytes-2.new.out c.put_bytes-2.result (omega arith) three c.put_bytes-2.ensures in
-    subst (λ (t : List ℕ). Placed room 0 t out c.put_bytes-2.result c.put_bytes-2.new.out) (head_text c.args.rows c.args.letters) four
+    let n = field (length s.rows.now) in
+    let m = field s.letters in
+    let e = c.in_ok-put.ensures in
+    let f = c.in_ok-put_field.ensures in
+    let g = c.in_ok-put_field-2.ensures in
+    let h = c.put-2.ensures in
+    let rows = subst (λ xs. Placed c.put.new.self (field (length xs)) (Some tt) c.put_field.new.self) c.rows.ensures f.placed in
+    let letters = subst (λ k. Placed c.put_field.new.self (field k) (Some tt) c.put_field-2.new.self) c.letters.ensures g.placed in
+    let two = placed_more u c.put.new.self c.put_field.new.self word n (Some tt) e.continues e.placed rows in
+    let past = goes_on e.continues f.continues in
+    let three = placed_more u c.put_field.new.self c.put_field-2.new.self (word ++ n) m (Some tt) past two letters in
+    let four = placed_more u c.put_field-2.new.self c.put-2.new.self ((word ++ n) ++ m) (line_feed ∷ []) c.put-2.result (goes_on past g.continues) three h.placed in
+    subst (λ (t : List ℕ). Placed u t c.put-2.result c.put-2.new.self) (head_text (length s.rows.now) s.letters) four

@@ -1,5 +1,4 @@
 use Rattle.std.proofs.Common.{sym, ◌∙◌, arith}
-use Rattle.std.proofs.lemmas.List.{length-set}
 use Rattle.register.proofs.Adding.{added_known, added_full, added_new}
 use Rattle.register.proofs.Register.add.Goals as goal
 
@@ -17,12 +16,3 @@ pub returns-clause-added : goal.returns-clause-added
 returns-clause-added g c =
     let s = c.args.self.now in
     added_new g.K.PartialEq.eq g.met.K.Key.decides s.keys.now s.count c.args.key (omega arith) s.different (sym c.in_default.is ∙ c.find.ensures.place)
-
-pub invariant_of-self : goal.invariant_of-self
-invariant_of-self g c =
-    let s = c.args.self.now in
-    let long = length-set s.keys.now s.count c.args.key in
-    record {
-      fits = omega (arith, long);
-      different = (added_new g.K.PartialEq.eq g.met.K.Key.decides s.keys.now s.count c.args.key (omega arith) s.different (sym c.in_default.is ∙ c.find.ensures.place)).grows.different;
-    }
