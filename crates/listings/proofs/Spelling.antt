@@ -1,27 +1,15 @@
 -- The pieces of which a line is put together.
-use Rattle.std.proofs.Common.{◌≡◌, ℕ, suc, ◌+◌, ◌^◌, ◌<◌, true, leb, List, [], ◌∷◌, ◌++◌, map, length, take, drop, Some, codes, decimal, Option, sym, refl, ap, ◌∙◌, append_assoc, arith}
+use Rattle.std.proofs.Common.{◌≡◌, ℕ, ◌+◌, ◌^◌, ◌<◌, true, leb, List, [], ◌∷◌, ◌++◌, map, length, codes, decimal, sym, refl, ap, ◌∙◌, append_assoc, arith}
 use Rattle.std.specs.List.{range_with_len, join_with_byte, flat_map}
 use Rattle.std.proofs.lemmas.Fmt.{length-decimal-le}
-use Rattle.std.proofs.lemmas.List.{append-nil, length-append, take_at}
-use Rattle.std.proofs.lemmas.Bool.{le-leb, cond-true}
+use Rattle.std.proofs.lemmas.List.{append-nil, length-append}
+use Rattle.std.proofs.lemmas.Bool.{le-leb}
 use Rattle.text.specs.Parts.{tab, line_feed}
-use Rattle.text.specs.Output.{room, put}
 use Rattle.dfa.specs.declared.rows.DfaRow.{DfaRow}
 use Rattle.listings.specs.Listing.{line, cell_of, head_fields, row_fields}
 
 pub few_digits : (n : ℕ) → n < 2 ^ 64 → leb (length (decimal n)) 20 ≡ true
 few_digits n h = le-leb (length (decimal n)) 20 (length-decimal-le 20 n (omega arith) (omega arith) h)
-
--- a tab and the digits that were written after it
-pub field_text : (n k : ℕ) (rest left : List ℕ) (r : Option ℕ) → n < 2 ^ 64 → length rest ≡ 20 → r ≡ room (decimal n) rest → r ≡ Some k → left ≡ put (decimal n) rest → take (k + 1) (tab ∷ (left ++ [])) ≡ tab ∷ decimal n
-field_text n k rest left r h l a b e =
-    let ds = decimal n in
-    let fits : leb (length ds) (length rest) ≡ true = ap (leb (length ds)) l ∙ few_digits n h in
-    let some : Some k ≡ Some (length ds) = sym b ∙ a ∙ cond-true _ _ _ fits in
-    let count : k ≡ length ds = cc in
-    let long : k + 1 ≡ suc (length ds) = omega arith in
-    let is : left ++ [] ≡ ds ++ drop (length ds) rest = append-nil left ∙ e ∙ cond-true _ _ _ fits in
-    (λ i. take (long i) (tab ∷ is i)) ∙ ap (λ t. tab ∷ t) (take_at ds (drop (length ds) rest) (length ds) refl)
 
 -- fields after the first are each a tab and the field
 after_tabs : (f : List ℕ) (fs : List (List ℕ)) → join_with_byte tab (f ∷ fs) ≡ f ++ flat_map (λ g. tab ∷ g) fs

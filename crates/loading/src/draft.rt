@@ -205,7 +205,6 @@ impl<'a> Draft<'a> {
                 field: 0,
             });
         }
-        // The lines before were not refused, so the rule keeps the laws.
         let numbers = Numbers {
             states,
             letters: self.header.letters,
@@ -213,6 +212,8 @@ impl<'a> Draft<'a> {
             accept: self.accept,
             reject: self.reject,
         };
-        Ok(StoredRule::from_steps(numbers, &self.table()).unwrap())
+        // The lines before were not refused, so the rule keeps the laws.
+        let rule = StoredRule::from_steps(numbers, &self.table()).unwrap();
+        Ok(rule)
     }
 }

@@ -29,13 +29,6 @@ pub fn read_sheet(sheet: &[u8]) -> Result<StoredRule, Refusal>
     ensures spelled { Spelled sheet.now (told result) }
     ensures first { FirstMet sheet.now (told result) }
 {
-    read(sheet)
-}
-
-// The same by its definition alone.
-fn read(sheet: &[u8]) -> Result<StoredRule, Refusal>
-    ensures { told result ≡ sheet_read sheet.now }
-{
     load(sheet)
 }
 

@@ -16,15 +16,10 @@ use text::Lines;
 pub const LONGEST: usize = 32_768;
 
 // Whether a sheet has the form of one: a line that begins `rule` and then lines that begin `at`, each of five fields.
+#[tactic(auto, using(crate::proofs::Forms::judged))]
 pub fn check_form(sheet: &[u8]) -> Result<(), Refusal>
     ensures answer { result ≡ form_of sheet.now }
     ensures law { Judged sheet.now result }
-{
-    check_lines(sheet)
-}
-
-fn check_lines(sheet: &[u8]) -> Result<(), Refusal>
-    ensures { result ≡ form_of sheet.now }
 {
     if sheet.len() > LONGEST {
         return Err(Refusal::unplaced(Fault::SheetTooLong));

@@ -6,7 +6,6 @@ pub mod Sheetwise
 pub mod Properly
 pub mod Giving
 pub mod Spelled
-pub mod LoadWords
 pub mod LoadTests
 pub mod LoadNames
 pub mod LoadEntries

@@ -1,11 +1,10 @@
 -- The whole sheet, line by line.
-use Rattle.std.proofs.Common.{◌≡◌, ℕ, ◌+◌, ◌<◌, ◌≤◌, Bool, cond, List, [], ◌∷◌, ◌++◌, length, Some, None, Ok, Err, Option, sym, refl, ap, ◌∙◌}
-use Rattle.std.proofs.lemmas.Bool.{le-ltb, cond-true, lt-ltb}
+use Rattle.std.proofs.Common.{◌≡◌, ℕ, ◌+◌, ◌≤◌, Bool, cond, List, [], ◌∷◌, ◌++◌, length, Some, None, Err, Option, sym, refl, ap, ◌∙◌}
+use Rattle.std.proofs.lemmas.Bool.{le-ltb}
 use Rattle.text.specs.Lines.{Line, lines}
 use Rattle.refusals.specs.declared.fault.Fault.{Fault}
-use Rattle.refusals.specs.declared.fault.Fault.TheVariants.{SheetTooLong, LineForm, StepMissing}
+use Rattle.refusals.specs.declared.fault.Fault.TheVariants.{SheetTooLong, StepMissing}
 use Rattle.refusals.specs.declared.refusal.Refusal.{Refusal}
-use Rattle.two_way.specs.Automaton.{Automaton}
 use Rattle.spelling.specs.Said.{letters}
 use Rattle.sheets.specs.Form.{longest, refusal_at}
 use Rattle.spelling.specs.Conditions.{Condition, first_met, conditions, word_conditions, step_conditions, lacks, or_else, refused_from, refused_lines, refused}
@@ -33,21 +32,10 @@ module _ (h : Line) (es : List Line) (l : Line) where
 pub read_err : (b : List ℕ) (e : Refusal) → refused b ≡ Some e → Err e ≡ sheet_read b
 read_err b e h = sym (ap (λ (o : Option Refusal). read_as o (rule_of (lines b))) h)
 
-pub read_ok : (b : List ℕ) (A : Automaton) → refused b ≡ None → A ≡ rule_of (lines b) → Ok A ≡ sheet_read b
-read_ok b A h e = ap Ok e ∙ sym (ap (λ (o : Option Refusal). read_as o (rule_of (lines b))) h)
-
 pub begun : (b : List ℕ) (h : Line) (ls : List Line) → length b ≤ longest → lines b ≡ h ∷ ls → refused b ≡ refused_from [] (h ∷ ls)
 begun b h ls short e =
     ap (λ (t : Bool). cond t (Some (refusal_at SheetTooLong 0 0)) (refused_lines (lines b))) (le-ltb longest (length b) short)
     ∙ ap refused_lines e
-
-pub too_long : (b : List ℕ) → longest < length b → Err (refusal_at SheetTooLong 0 0) ≡ sheet_read b
-too_long b long = read_err b (refusal_at SheetTooLong 0 0) (cond-true _ _ _ (lt-ltb longest (length b) long))
-
-pub no_lines : (b : List ℕ) → length b ≤ longest → lines b ≡ [] → Err (refusal_at LineForm 1 0) ≡ sheet_read b
-no_lines b short e =
-    read_err b (refusal_at LineForm 1 0)
-    (ap (λ (t : Bool). cond t (Some (refusal_at SheetTooLong 0 0)) (refused_lines (lines b))) (le-ltb longest (length b) short) ∙ ap refused_lines e)
 
 -- a line that is passed, and one by which the sheet is refused
 pub line_passed : (before ls : List Line) (l : Line) → first_met (conditions before l) ≡ None → refused_from before (l ∷ ls) ≡ refused_from (before ++ l ∷ []) ls

@@ -1,10 +1,9 @@
 -- A text is read as a number exactly where it is the number's digits.
-use Rattle.std.proofs.Common.{◌≡◌, ℕ, ◌+◌, ◌-◌, ◌*◌, ◌^◌, ◌<◌, ◌≤◌, Bool, true, false, cond, ◌&&◌, leb, ◌⊎◌, List, [], ◌∷◌, length, get_or, drop, Some, None, decimal, Option, sym, refl, ap, ◌∙◌, subst, inl, inr, zero-le, le_refl, not-suc-le-zero, zero-lt-suc, arith, rules}
+use Rattle.std.proofs.Common.{◌≡◌, ℕ, ◌+◌, ◌-◌, ◌*◌, ◌^◌, ◌<◌, ◌≤◌, Bool, true, false, cond, ◌&&◌, leb, ◌⊎◌, List, [], ◌∷◌, length, get_or, Some, None, decimal, Option, sym, refl, ap, ◌∙◌, subst, inl, inr, zero-le, le_refl, not-suc-le-zero, zero-lt-suc, arith, rules}
 use Rattle.std.specs.Str.Iter.{LacksByte}
 use Rattle.std.specs.Char.{is_ascii_digit}
 use Rattle.std.specs.Int.{IsInRange}
 use Rattle.std.specs.Str.{all_ascii_digits}
-use Rattle.std.proofs.lemmas.List.{at_drop_more}
 use Rattle.std.proofs.lemmas.Bool.{cases_eq, and_parts, and_right, leb-true, le-leb, lt-leb, leb-false, eqb-false, ne_eqb, not-true, not_from_false, cond-false}
 use Rattle.std.proofs.lemmas.Str.Parse.{IsNumeralModel, numerals_by_fold, not_in_digits}
 use Rattle.std.proofs.lemmas.Fmt.{decimal_digit, decimal_nonempty, decimal-digits_value, digits_decimal, digits_value-decimal, first_decimal}
@@ -96,13 +95,6 @@ not_plain most text e = rw e refl
 
 pub by_digits : (most : ℕ) (text : List ℕ) → plain text ≡ true → read_on most text 0 ≡ number most text
 by_digits most text e = read_on_is most text 0 zero-le ∙ rw e refl
-
--- a turn of the loop over the digits: text is read up to i, as n
-pub digit_refused : (most n i : ℕ) (text : List ℕ) → i < length text → added most n (get_or text i 0) ≡ None → read_on most (drop i text) n ≡ None
-digit_refused most n i text h e = at_drop_more (λ (bs : List ℕ). read_on most bs n) text i 0 h ∙ ap (then_read _) e
-
-pub digit_taken : (most n k i : ℕ) (text : List ℕ) → i < length text → added most n (get_or text i 0) ≡ Some k → read_on most (drop i text) n ≡ read_on most (drop (i + 1) text) k
-digit_taken most n k i text h e = at_drop_more (λ (bs : List ℕ). read_on most bs n) text i 0 h ∙ ap (then_read _) e
 
 -- digits have no byte that is not one
 pub lacks_decimal : (x n : ℕ) → n < 2 ^ 64 → (IsInRange 48 57 x → ⊥) → LacksByte x (decimal n)

@@ -11,11 +11,8 @@ pub fn read_number(text: &[u8], most: u32) -> Option<u32>
     if !is_plain(text) {
         return None;
     }
-    let mut value = 0;
-    for b in text {
-        value = with_digit(value, *b, most)?;
-    }
-    Some(value)
+    text.iter()
+        .try_fold(0, |value, b| with_digit(value, *b, most))
 }
 
 // Whether a text has a byte, and no needless zero in front.

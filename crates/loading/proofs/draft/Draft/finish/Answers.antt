@@ -23,12 +23,12 @@ returns-then-lacks c h es D =
     let g = c.lacks.ensures.gap c.if-lacks.true in
     (gap_lacks h es c.args.self.now D c.count-states.result (states_are (goal.at.returns-then-lacks c).After-count-states h es D) c.count-states.ensures.few g.0 g.1 g.2, refl)
 
-pub unwrap-requires : goal.unwrap-requires
-unwrap-requires c =
+pub unwrap-rule-requires : goal.unwrap-rule-requires
+unwrap-rule-requires c =
     let R = c.requires in
     let x = c.args.self.now in
     let k = c.count-states.result in
-    let e = states_are (goal.at.unwrap-requires c).After-count-states R.head R.rest R.drawn in
+    let e = states_are (goal.at.unwrap-rule-requires c).After-count-states R.head R.rest R.drawn in
     let few = c.count-states.ensures.few in
     let full = c.lacks.ensures.full c.if-lacks.false in
     is_loaded _ c.from_steps.result c.from_steps.ensures
@@ -42,4 +42,4 @@ returns c h es D =
     let e = states_are (goal.at.returns c).After-count-states h es D in
     let few = c.count-states.ensures.few in
     let full = c.lacks.ensures.full c.if-lacks.false in
-    (none_lacks h es x D k e few full, (rw c.unwrap.ensures at c.from_steps.ensures).1 ∙ rule_is h es x D k e few c.table.result c.table.ensures)
+    (none_lacks h es x D k e few full, (rw c.unwrap-rule.ensures at c.from_steps.ensures).1 ∙ rule_is h es x D k e few c.table.result c.table.ensures)

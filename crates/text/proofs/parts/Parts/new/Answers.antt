@@ -1,6 +1,5 @@
-use Rattle.std.proofs.Common.{refl}
 use Rattle.text.proofs.Parting.{parted_only}
 use Rattle.text.proofs.parts.Parts.new.Goals as goal
 
-pub returns : goal.returns
-returns c = record { parts = refl; law = parted_only c.args.separator c.args.text.now }
+pub returns-clause-law : goal.returns-clause-law
+returns-clause-law c = parted_only c.args.separator c.args.text.now

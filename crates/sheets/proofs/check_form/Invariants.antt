@@ -1,7 +1,7 @@
 use Rattle.std.proofs.Common.{◌≡◌, ◌+◌, ◌≤◌, length, codes}
 use Rattle.text.specs.Left.{lines_left}
 use Rattle.sheets.specs.Form.{checked, form_of, longest}
-use Rattle.sheets.proofs.check_lines.Given as goal
+use Rattle.sheets.proofs.check_form.Given as goal
 
 abbrev pub invariant-loop-number : goal.invariant-loop-number
 invariant-loop-number l =
