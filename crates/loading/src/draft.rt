@@ -22,7 +22,7 @@ use refusals::{Fault, Refusal};
 use register::Name;
 use rules::{Direction, Move, Numbers, StoredRule};
 
-// The steps given so far: that of a state at a column at place 18 * state + column.
+// The steps given so far: that of a state at a column at place 18 * state + column, since a stored rule takes them so.
 #[derive(Drop)]
 pub struct Draft<'a> {
     pub header: Header,

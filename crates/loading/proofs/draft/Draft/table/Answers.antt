@@ -1,6 +1,6 @@
 use Rattle.std.proofs.Common.{◌≡◌, ℕ, ◌+◌, ◌*◌, ◌/◌, ◌%◌, ◌∙◌, arith, rules}
 use Rattle.loading.specs.Drawn.{settled}
-use Rattle.loading.proofs.Ranges.{made}
+use Rattle.rules.proofs.Ranging.{made}
 use Rattle.loading.proofs.draft.Draft.table.Goals as goal
 
 pub returns : goal.returns
