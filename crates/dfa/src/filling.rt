@@ -38,6 +38,7 @@ fn fill_all<R: Rule>(rule: &R, tables: &mut [CrossingTable], dfa: &mut [DfaRow])
 }
 
 // The rows alone: where they are more than the places, these have some of them.
+// Rule and register are no struct: it would have to promise of the places' loan what the register's own calls promise.
 fn take_rows<R: Rule>(
     rule: &R,
     known: &mut Register<CrossingTable>,

@@ -6,6 +6,7 @@ ghost use Rattle.dfa.specs.Rows.{row_of, blank_row};
 #[derive(Clone, Copy, Debug)]
 pub struct DfaRow {
     cells: [u16; 16],
+    // A number, not a Verdict: the row is lent memory, for C too, and may hold any byte.
     verdict: u8,
 }
 
@@ -16,7 +17,7 @@ impl DfaRow {
         DfaRow { cells, verdict }
     }
 
-    // Zeros: no build leaves such a row in use.
+    // Zeros. Not `Default`, since no build leaves such a row in use.
     pub fn blank() -> DfaRow
         ensures { result ≡ blank_row }
     {

@@ -28,7 +28,7 @@ pub fn fold_sheet(
     read_build_list(sheet, tables, dfa, out)
 }
 
-// The three calls, one after another.
+// The three calls, one after another, apart from `fold_sheet`: its law follows from their outcome.
 fn read_build_list(
     sheet: &[u8],
     tables: &mut [CrossingTable],

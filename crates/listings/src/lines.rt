@@ -52,6 +52,7 @@ fn put_cells(row: &DfaRow, letters: u8, writer: &mut Writer) -> Option<()>
     ensures placed { Placed writer.old (flat_map (λ a. tab ∷ decimal (cell_of row.now a)) (range_with_len 0 letters)) result writer.new }
     ensures continues { Continues writer.old writer.new }
 {
+    // Not over the row's cells: letters past the last cell are listed too.
     for letter in 0..letters {
         writer.put_field(row.cell(letter as usize) as u64)?;
     }

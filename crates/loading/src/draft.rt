@@ -48,16 +48,15 @@ impl Header {
     {
         self.accept == *name || self.reject == *name
     }
-}
 
-// Whether the direction leads past an end.
-fn leads_out(letters: u8, column: u8, direction: Direction) -> bool
-    requires { letters ≤ 16 }
-    ensures { result ≡ wrong_way letters column (direction_number direction) }
-{
-    match direction {
-        Direction::Left => column == letters,
-        Direction::Right => column == letters + 1,
+    // Whether the direction leads past an end.
+    fn leads_out(&self, column: u8, direction: Direction) -> bool
+        ensures { result ≡ wrong_way self.now.letters column (direction_number direction) }
+    {
+        match direction {
+            Direction::Left => column == self.letters,
+            Direction::Right => column == self.letters + 1,
+        }
     }
 }
 
@@ -108,7 +107,7 @@ impl<'a> Draft<'a> {
             .states
             .named(entry.next)
             .ok_or(row.refused(Fault::TooManyNames, 4))?;
-        if leads_out(self.header.letters, entry.column, entry.direction) {
+        if self.header.leads_out(entry.column, entry.direction) {
             return Err(row.refused(Fault::EndDirection, 5));
         }
         let place = place_of(state, entry.column);

@@ -32,7 +32,7 @@ pub fn read_sheet(sheet: &[u8]) -> Result<StoredRule, Refusal>
     load(sheet)
 }
 
-// Line by line.
+// Line by line, apart from `read_sheet`: its laws follow from the equation.
 fn load(sheet: &[u8]) -> Result<StoredRule, Refusal>
     ensures { told result ≡ sheet_read sheet.now }
 {
@@ -46,7 +46,7 @@ fn load(sheet: &[u8]) -> Result<StoredRule, Refusal>
     let mut draft = Draft::new(header, States::new(&mut places));
     for (number, line) in (2..).zip(lines) {
         let row = Row { number, line };
-        let entry = Entry::read(row, draft.header.letters)?;
+        let entry = Entry::read(row, &draft.header)?;
         draft.enter(row, entry)?;
     }
     draft.finish()

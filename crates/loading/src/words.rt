@@ -27,18 +27,6 @@ fn read_letters(text: &[u8]) -> Option<u8>
     read_between(text, 1, 17)
 }
 
-// The column that a text names among the letters: the left end comes after them, and then the right end.
-fn read_column(text: &[u8], letters: u8) -> Option<u8>
-    requires { letters ≤ 16 }
-    ensures { result ≡ column_of letters text.now }
-{
-    match text {
-        [b'<'] => Some(letters),
-        [b'>'] => Some(letters + 1),
-        _ => read_between(text, 0, letters),
-    }
-}
-
 fn read_direction(text: &[u8]) -> Option<Direction>
     ensures { option_map direction_number result ≡ direction_of text.now }
 {
@@ -83,6 +71,17 @@ impl Header {
             reject,
         })
     }
+
+    // The column that a text names among the letters: the left end comes after them, and then the right end.
+    fn column(&self, text: &[u8]) -> Option<u8>
+        ensures { result ≡ column_of self.now.letters text.now }
+    {
+        match text {
+            [b'<'] => Some(self.letters),
+            [b'>'] => Some(self.letters + 1),
+            _ => read_between(text, 0, self.letters),
+        }
+    }
 }
 
 // What a later line says.
@@ -101,17 +100,15 @@ impl Entry {
     ghost use Rattle.loading.specs.Fields.{Says};
     ghost use Rattle.loading.specs.Telling.{told_on};
 
-    pub(crate) fn read(row: Row, letters: u8) -> Result<Entry, Refusal>
-        requires { letters ≤ 16 }
-        ensures { MatchResult result (λ x. (first_met (word_conditions letters (line_of row.entry.line)) ≡ None) × Says letters (line_of row.entry.line) x) (λ e. told_on row.entry.number e (first_met (word_conditions letters (line_of row.entry.line)))) }
+    pub(crate) fn read(row: Row, header: &Header) -> Result<Entry, Refusal>
+        ensures { MatchResult result (λ x. (first_met (word_conditions header.now.letters (line_of row.entry.line)) ≡ None) × Says header.now.letters (line_of row.entry.line) x) (λ e. told_on row.entry.number e (first_met (word_conditions header.now.letters (line_of row.entry.line)))) }
     {
         let fields = row.fields(b"at")?;
         let state = row.name(fields.second, 2)?;
         let next = row.name(fields.fourth, 4)?;
-        let column = read_column(fields.third, letters).ok_or(row.refused(
-            Fault::LetterOrColumn,
-            3,
-        ))?;
+        let column = header
+            .column(fields.third)
+            .ok_or(row.refused(Fault::LetterOrColumn, 3))?;
         let direction = read_direction(fields.fifth).ok_or(row.refused(Fault::Direction, 5))?;
         Ok(Entry {
             state,
