@@ -17,6 +17,7 @@ use Rattle.spelling.proofs.Wording.{letters_read}
 use Rattle.spelling.proofs.Order.{placed_nth}
 use Rattle.spelling.proofs.LoadNames.{none_some, place, state_is, apart_names}
 use Rattle.spelling.proofs.LoadEntries.{step_none, any_true, any_lacking}
+use Rattle.loading.specs.Cells.{cell}
 use Rattle.loading.specs.Drawn.{given_for, settled, Gap, Drawn}
 use Rattle.loading.specs.declared.draft.Draft.{Draft}
 
@@ -53,7 +54,7 @@ module _ (h : Line) (es : List Line) (x : Draft) (D : Drawn h es x) where
   halts_is : (q : ℕ) (y : List ℕ) → slice_get (names (h ∷ es)) q ≡ Some y → halts (h ∷ es) y ≡ (eqb q x.accept || eqb q x.reject)
   halts_is q y e = (λ i. test_is q x.accept y (field 4 h) e D.accept i || test_is q x.reject y (field 5 h) e D.reject i)
 
-  cell_at : (q c : ℕ) (y : List ℕ) → q < 32 → c < 18 → slice_get (names (h ∷ es)) q ≡ Some y → told (get_or x.steps (q * 18 + c) None) ≡ step_of (names (h ∷ es)) (found (letters (h ∷ es)) y c es)
+  cell_at : (q c : ℕ) (y : List ℕ) → q < 32 → c < 18 → slice_get (names (h ∷ es)) q ≡ Some y → told (cell x.steps.cells q c) ≡ step_of (names (h ∷ es)) (found (letters (h ∷ es)) y c es)
   cell_at q c y hq hc e = D.cells q c hq hc ∙ ap (given_for (names (h ∷ es)) (letters (h ∷ es)) es c) e
 
   module _ (k : ℕ) (count : k ≡ length (names (h ∷ es))) (few : k ≤ 32) where
@@ -92,7 +93,7 @@ module _ (h : Line) (es : List Line) (x : Draft) (D : Drawn h es x) where
         | inr z ↦ z
       ]
 
-    module _ (T : List (ℕ × ℕ)) (table : (q c : ℕ) → q < 32 → c < 18 → at T q c ≡ settled x q c) where
+    module _ (T : List (List (ℕ × ℕ))) (table : (q c : ℕ) → q < 32 → c < 18 → at T q c ≡ settled x q c) where
       step_is : (q c : ℕ) → q < k → c < x.header.letters + 2 → at T q c ≡ step_in (h ∷ es) q c
       step_is q c lq lc =
           let e = name_at q lq in

@@ -1,3 +1,4 @@
+pub mod Celled
 pub mod Formed
 pub mod Growing
 pub mod Entering

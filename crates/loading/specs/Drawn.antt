@@ -14,6 +14,7 @@ use Rattle.sheets.specs.Form.{longest}
 use Rattle.spelling.specs.Conditions.{lacks, refused, refused_from}
 use Rattle.spelling.specs.Reading.{step_of, rule_of}
 use Rattle.loading.specs.Fields.{Heads}
+use Rattle.loading.specs.Cells.{cell}
 use Rattle.loading.specs.declared.draft.Draft.{Draft}
 
 -- the step that entries among m letters give at column c for a name, if there is one
@@ -32,22 +33,21 @@ pub record DrawnBy (ns : List (List ℕ)) (h : Line) (es : List Line) (x : Draft
   pub start : place_of bytes_eq ns (field 3 h) ≡ Some x.start
   pub accept : place_of bytes_eq ns (field 4 h) ≡ Some x.accept
   pub reject : place_of bytes_eq ns (field 5 h) ≡ Some x.reject
-  pub long : length x.steps ≡ 576
-  pub cells : (q c : ℕ) → q < 32 → c < 18 → told (slice_index_or x.steps (q * 18 + c) None) ≡ given ns (letters (h ∷ [])) es q c
+  pub cells : (q c : ℕ) → q < 32 → c < 18 → told (cell x.steps.cells q c) ≡ given ns (letters (h ∷ [])) es q c
 
 abbrev pub Drawn : Line → List Line → Draft → Type 0
 Drawn h es x = DrawnBy (names (h ∷ es)) h es x
 
 -- a step of the rule
 abbrev pub settled : Draft → ℕ → ℕ → ℕ × ℕ
-settled x q c = cond (q == x.accept || q == x.reject) (q, onward x.header.letters c) (unwrap_or (told (slice_index_or x.steps (q * 18 + c) None)) (0, 0))
+settled x q c = cond (q == x.accept || q == x.reject) (q, onward x.header.letters c) (unwrap_or (told (cell x.steps.cells q c)) (0, 0))
 
 -- state q of k, which neither accepts nor rejects, lacks column c
 pub record Gap (x : Draft) (k q c : ℕ) : Type 0 where
   pub state : q < k
   pub goes_on : (q ≢ x.accept) × (q ≢ x.reject)
   pub column : c < x.header.letters + 2
-  pub none : slice_index_or x.steps (q * 18 + c) None ≡ None
+  pub none : cell x.steps.cells q c ≡ None
 
 -- the draft of lines that are lawful where no column lacks
 pub record Ready (x : Draft) : Type 0 where

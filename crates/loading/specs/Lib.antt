@@ -1,3 +1,4 @@
+pub mod Cells
 pub mod Fields
 pub mod Telling
 pub mod Drawn

@@ -1,5 +1,6 @@
 // A rule while its sheet is read.
-ghost use Rattle.std.specs.Prelude.{◌≡◌, ℕ, ◌+◌, ◌*◌, ◌<◌, ◌≤◌, true, false, ◌||◌, List, [], ◌∷◌, ◌++◌, length, None, MatchResult, ◌≢◌, ◌==◌, slice_index_or};
+ghost use Rattle.std.specs.Prelude.{◌≡◌, ℕ, ◌+◌, ◌*◌, ◌<◌, ◌≤◌, true, false, ◌||◌, List, [], ◌∷◌, ◌++◌, length, map, None, MatchResult, ◌≢◌, ◌==◌, slice_index_or};
+ghost use Rattle.std.specs.List.{range_with_len};
 ghost use Rattle.text.specs.Lines.{Line as SheetLine};
 ghost use Rattle.text.specs.Left.{line_of};
 ghost use Rattle.refusals.specs.declared.fault.Fault.TheVariants.{StepMissing};
@@ -13,16 +14,19 @@ ghost use Rattle.spelling.specs.Conditions.{first_met, step_conditions, wrong_wa
 ghost use Rattle.spelling.specs.Reading.{rule_of};
 ghost use Rattle.loading.specs.Fields.{Heads, Says};
 ghost use Rattle.loading.specs.Telling.{told_on};
+ghost use Rattle.loading.specs.Cells.{cell};
 ghost use Rattle.loading.specs.Drawn.{Drawn, settled, Gap, Ready};
 
 use crate::rows::Row;
 use crate::states::States;
+use crate::steps::Steps;
 use crate::words::{Entry, Header};
 use refusals::{Fault, Refusal};
 use register::Name;
-use rules::{Direction, Move, Numbers, StoredRule};
+use rules::{Direction, Move, Numbers, StoredRule, onward};
+use std::array;
 
-// The steps given so far: that of a state at a column at place 18 * state + column, since a stored rule takes them so.
+// What the lines so far said; of the steps, those given, each at its state and column.
 #[derive(Drop)]
 pub struct Draft<'a> {
     pub header: Header,
@@ -30,15 +34,9 @@ pub struct Draft<'a> {
     pub start: u8,
     pub accept: u8,
     pub reject: u8,
-    pub steps: [Option<Move>; 576],
+    pub steps: Steps,
     // How many lines were read.
     pub lines: u32,
-}
-
-fn place_of(state: u8, column: u8) -> usize
-    ensures { result ≡ state * 18 + column }
-{
-    18 * usize::from(state) + usize::from(column)
 }
 
 impl Header {
@@ -84,7 +82,7 @@ impl<'a> Draft<'a> {
             start,
             accept,
             reject,
-            steps: [None; 576],
+            steps: Steps::none(),
             lines: 1,
         }
     }
@@ -110,24 +108,13 @@ impl<'a> Draft<'a> {
         if self.header.leads_out(entry.column, entry.direction) {
             return Err(row.refused(Fault::EndDirection, 5));
         }
-        let place = place_of(state, entry.column);
-        if self.steps[place].is_some() {
+        if self.steps.at(state, entry.column).is_some() {
             return Err(row.refused(Fault::StepTwice, 3));
         }
-        self.steps[place] = Some(Move {
-            to,
-            direction: entry.direction,
-        });
+        let direction = entry.direction;
+        self.steps.put(state, entry.column, Move { to, direction });
         self.lines = row.number;
         Ok(())
-    }
-
-    // The step of a state at a column, if it was given.
-    fn step(&self, state: u8, column: u8) -> Option<Move>
-        requires { (state < 32) × (column < 18) }
-        ensures { result ≡ slice_index_or self.now.steps (state * 18 + column) None }
-    {
-        self.steps[place_of(state, column)]
     }
 
     // Whether the state accepts or rejects.
@@ -139,10 +126,10 @@ impl<'a> Draft<'a> {
 
     fn row_lacks(&self, state: u8) -> bool
         requires { state < 32 }
-        ensures gap { result ≡ true → (c : ℕ) × (c < self.now.header.letters + 2) × (slice_index_or self.now.steps (state * 18 + c) None ≡ None) }
-        ensures full { result ≡ false → (c : ℕ) → c < self.now.header.letters + 2 → slice_index_or self.now.steps (state * 18 + c) None ≢ None }
+        ensures gap { result ≡ true → (c : ℕ) × (c < self.now.header.letters + 2) × (cell self.now.steps.cells state c ≡ None) }
+        ensures full { result ≡ false → (c : ℕ) → c < self.now.header.letters + 2 → cell self.now.steps.cells state c ≢ None }
     {
-        (0..self.header.letters + 2).any(|column| self.step(state, column).is_none())
+        (0..self.header.letters + 2).any(|column| self.steps.at(state, column).is_none())
     }
 
     // Whether a state that neither accepts nor rejects lacks a column.
@@ -169,25 +156,32 @@ impl<'a> Draft<'a> {
         ensures { pair_of result ≡ settled self.now state column }
     {
         if !self.is_halt(state) {
-            return self.step(state, column).unwrap_or(Move {
+            return self.steps.at(state, column).unwrap_or(Move {
                 to: 0,
                 direction: Direction::Left,
             });
         }
         Move {
             to: state,
-            direction: if column <= self.header.letters {
-                Direction::Right
-            } else {
-                Direction::Left
-            },
+            direction: onward(self.header.letters, column),
         }
     }
 
-    fn table(&self) -> [(u8, u8); 576]
+    fn row(&self, state: u8) -> [(u8, u8); 18]
+        requires { state < 32 }
+        ensures { result ≡ map (settled self.now state) (range_with_len 0 18) }
+    {
+        array::from_fn(|column| pair_of(self.settled(state, column as u8)))
+    }
+
+    fn table(&self) -> [[(u8, u8); 18]; 32]
         ensures { (q c : ℕ) → q < 32 → c < 18 → at result q c ≡ settled self.now q c }
     {
-        std::array::from_fn(|place| pair_of(self.settled((place / 18) as u8, (place % 18) as u8)))
+        let mut table = [[(0, 0); 18]; 32];
+        for (state, row) in table.iter_mut().enumerate() {
+            *row = self.row(state as u8);
+        }
+        table
     }
 
     // The rule, unless a state lacks a column.

@@ -10,6 +10,7 @@ ghost use Rattle.loading.specs.Telling.{told};
 mod draft;
 mod rows;
 mod states;
+mod steps;
 mod words;
 
 use draft::Draft;

@@ -5,8 +5,11 @@ use Rattle.std.proofs.lemmas.Bool.Decides.{nat_tests}
 use Rattle.two_way.specs.Pairs.{blank}
 use Rattle.rules.specs.Steps.{stored, at, onward, allowed, Kept}
 
-abbrev rows : List (ℕ × ℕ)
-rows = set (set (set (set (replicate 576 (0, 1)) 2 (0, 0)) 18 (1, 1)) 19 (1, 1)) 20 (1, 0)
+abbrev rows : List (List (ℕ × ℕ))
+rows =
+    let first = set (replicate 18 (0, 1)) 2 (0, 0) in
+    let second = set (replicate 18 (1, 1)) 2 (1, 0) in
+    set (set (set (replicate 32 (replicate 18 (0, 1))) 0 first) 1 (replicate 18 (1, 1))) 1 second
 
 -- each of the six steps, by computing
 each : (P : ℕ → ℕ → Type 0) → P 0 0 × P 0 1 × P 0 2 × P 1 0 × P 1 1 × P 1 2 → (q c : ℕ) → q < 2 → c < 3 → P q c

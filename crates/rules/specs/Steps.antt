@@ -1,5 +1,5 @@
 -- Steps as an automaton has them; an automaton from its numbers and a total function of steps, and the test that its steps keep the laws.
-use Rattle.std.specs.Prelude.{◌≡◌, ℕ, ◌+◌, ◌*◌, ◌<◌, ◌≤◌, Bool, true, cond, ◌&&◌, ◌||◌, List, Some, None, Option, ◌==◌, ◌≢◌, nat_lt, slice_index_or}
+use Rattle.std.specs.Prelude.{◌≡◌, ℕ, ◌+◌, ◌<◌, ◌≤◌, Bool, true, cond, ◌&&◌, ◌||◌, List, [], Some, None, Option, ◌==◌, ◌≢◌, nat_lt, slice_index_or}
 use Rattle.two_way.specs.Automaton.{Automaton, Way, L, R}
 use Rattle.rules.specs.declared.rule.Direction.{Direction}
 use Rattle.rules.specs.declared.rule.Direction.TheVariants.{Left, Right}
@@ -36,11 +36,11 @@ automaton k m s t r step = record {
   next = λ q c. cond (nat_lt q k && nat_lt c (m + 2)) (Some (step q c)) None;
 }
 
--- 32 rows of 18 steps, one row after the other
-abbrev pub at : List (ℕ × ℕ) → ℕ → ℕ → ℕ × ℕ
-at steps q c = slice_index_or steps (q * 18 + c) (0, 0)
+-- a row of steps for each state
+abbrev pub at : List (List (ℕ × ℕ)) → ℕ → ℕ → ℕ × ℕ
+at steps q c = slice_index_or (slice_index_or steps q []) c (0, 0)
 
-abbrev pub stored : ℕ → ℕ → ℕ → ℕ → ℕ → List (ℕ × ℕ) → Automaton
+abbrev pub stored : ℕ → ℕ → ℕ → ℕ → ℕ → List (List (ℕ × ℕ)) → Automaton
 stored k m s t r steps = automaton k m s t r (at steps)
 
 abbrev pub Sizes : ℕ → ℕ → ℕ → ℕ → ℕ → Type 0

@@ -16,7 +16,7 @@ mod stored;
 pub use distance::DistanceRule;
 pub use numbers::Numbers;
 pub use pair::PairRule;
-pub use rule::{Direction, Move, Rule, step};
+pub use rule::{Direction, Move, Rule, onward, step};
 pub use stored::StoredRule;
 
 #[cfg(test)]
@@ -87,13 +87,13 @@ mod tests {
 
     #[test]
     fn a_stored_rule_keeps_the_laws(rt: HostRuntime) -> Result<(), Fail> {
-        let mut steps = [(0, 1); 576];
-        steps[2] = (0, 0);
-        steps[18] = (1, 1);
-        steps[19] = (1, 1);
-        steps[20] = (1, 0);
-        steps[37] = (2, 1);
-        steps[38] = (1, 0);
+        let mut steps = [[(0, 1); 18]; 32];
+        steps[0][2] = (0, 0);
+        steps[1][0] = (1, 1);
+        steps[1][1] = (1, 1);
+        steps[1][2] = (1, 0);
+        steps[2][1] = (2, 1);
+        steps[2][2] = (1, 0);
         let numbers = Numbers {
             states: 3,
             letters: 1,
@@ -104,7 +104,7 @@ mod tests {
         let rule = StoredRule::from_steps(numbers, &steps).ok_or("no rule")?;
         assert_eq!(rt; run(&rule, &[1, 0, 2]), Some(true));
         assert_eq!(rt; run(&rule, &[1, 2]), Some(false));
-        steps[38] = (1, 1);
+        steps[2][2] = (1, 1);
         assert!(rt; StoredRule::from_steps(numbers, &steps).is_none());
         Ok(())
     }

@@ -17,7 +17,7 @@ pub struct Numbers {
 
 impl Numbers {
     // Whether the rule with these numbers and these steps keeps the laws.
-    pub(crate) fn keep_laws(self, steps: &[(u8, u8); 576]) -> bool
+    pub(crate) fn keep_laws(self, steps: &[[(u8, u8); 18]; 32]) -> bool
         ensures { MatchBool result (Sizes self.states self.letters self.start self.accept self.reject × Kept self.states self.letters self.accept self.reject (at steps.now) × Lawful (stored self.states self.letters self.start self.accept self.reject steps.now)) (Lawful (stored self.states self.letters self.start self.accept self.reject steps.now) → ⊥) }
     {
         if self.states < 2 || self.states > 32 || self.letters < 1 || self.letters > 16 {
@@ -44,27 +44,19 @@ impl Numbers {
         }
     }
 
-    fn allow_row(self, steps: &[(u8, u8); 576], state: u8) -> bool
+    fn allow_row(self, steps: &[[(u8, u8); 18]; 32], state: u8) -> bool
         requires { (self.letters ≤ 16) × (state < 32) }
         ensures { Decides result (RowKept self.states self.letters self.accept self.reject (at steps.now) state) }
     {
         (0..self.letters + 2).all(|column| {
-            self.allow(state, column, step_at(steps, state, column))
+            self.allow(state, column, steps[state as usize][column as usize])
         })
     }
 
-    fn allow_all(self, steps: &[(u8, u8); 576]) -> bool
+    fn allow_all(self, steps: &[[(u8, u8); 18]; 32]) -> bool
         requires { (self.letters ≤ 16) × (self.states ≤ 32) }
         ensures { Decides result (Kept self.states self.letters self.accept self.reject (at steps.now)) }
     {
         (0..self.states).all(|state| self.allow_row(steps, state))
     }
-}
-
-// Steps stand one state after the other, 18 of each.
-pub(crate) fn step_at(steps: &[(u8, u8); 576], state: u8, column: u8) -> (u8, u8)
-    requires { (state < 32) × (column < 18) }
-    ensures { result ≡ at steps.now state column }
-{
-    steps[state as usize * 18 + column as usize]
 }

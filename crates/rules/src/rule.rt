@@ -70,7 +70,7 @@ fn stay(state: u8) -> Move
 }
 
 // The direction R, but L at the right end.
-pub(crate) fn onward(letters: u8, column: u8) -> Direction
+pub fn onward(letters: u8, column: u8) -> Direction
     ensures { direction_number result ≡ onward letters column }
 {
     if column <= letters {

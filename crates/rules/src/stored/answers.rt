@@ -7,19 +7,18 @@ ghost use Rattle.rules.specs.Kinds.{of_stored, Loaded};
 ghost use Rattle.std.proofs.Common.{rules, arith};
 
 use super::StoredRule;
-use crate::numbers::{Numbers, step_at};
+use crate::numbers::Numbers;
 use crate::rule::{Direction, Move, Rule};
 
 // Both states keep themselves: R at the letter and the left end, L at the right end.
-fn blank_steps() -> [(u8, u8); 576]
+fn blank_steps() -> [[(u8, u8); 18]; 32]
     ensures kept { Kept 2 1 0 1 (at result) }
     ensures value { stored 2 1 1 0 1 result ≡ blank 1 }
 {
-    let mut steps = [(0, 1); 576];
-    steps[2] = (0, 0);
-    steps[18] = (1, 1);
-    steps[19] = (1, 1);
-    steps[20] = (1, 0);
+    let mut steps = [[(0, 1); 18]; 32];
+    steps[0][2] = (0, 0);
+    steps[1] = [(1, 1); 18];
+    steps[1][2] = (1, 0);
     steps
 }
 
@@ -42,7 +41,7 @@ impl StoredRule {
     }
 
     // The rule with these numbers and steps, where they keep the laws. Steps past the states and the columns are not looked at.
-    pub fn from_steps(numbers: Numbers, steps: &[(u8, u8); 576]) -> Option<StoredRule>
+    pub fn from_steps(numbers: Numbers, steps: &[[(u8, u8); 18]; 32]) -> Option<StoredRule>
         ensures { Loaded (stored numbers.states numbers.letters numbers.start numbers.accept numbers.reject steps.now) result }
     {
         if numbers.keep_laws(steps) {
@@ -83,7 +82,7 @@ impl Rule for StoredRule {
         if state >= self.numbers.states || column >= self.numbers.letters + 2 {
             return None;
         }
-        let (to, direction) = step_at(&self.steps, state, column);
+        let (to, direction) = self.steps[state as usize][column as usize];
         Some(Move {
             to,
             direction: if direction == 1 {

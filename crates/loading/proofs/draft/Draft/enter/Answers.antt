@@ -12,6 +12,7 @@ use Rattle.spelling.proofs.LoadSeats.{seat_low, seated, unseated}
 use Rattle.spelling.proofs.LoadEntries.{none_is}
 use Rattle.spelling.proofs.LoadTests.{step_halts, step_state, step_next, step_end, step_twice, step_good}
 use Rattle.loading.specs.Fields.{Says}
+use Rattle.loading.specs.Cells.{cell}
 use Rattle.loading.specs.Drawn.{Drawn}
 use Rattle.loading.proofs.Entering.{telling, halting, err_is}
 use Rattle.loading.proofs.Growing.{found_cell, drawn_more}
@@ -74,15 +75,15 @@ returns-then-leads_out c h es D S =
     (step_end (h ∷ es) l (sym (halts_is (goal.at.returns-then-leads_out c).After-halts h es D S) ∙ c.if-halts.false) s.0 t.0
     (leads_is (goal.at.returns-then-leads_out c).After-leads_out h es D S ∙ c.if-leads_out.true))
 
-pub bounds-self-place : goal.bounds-self-place
-bounds-self-place c = omega (arith, low (goal.at.bounds-self-place c).In_ok-state, c.args.entry.low)
+pub at-requires : goal.at-requires
+at-requires c = (low (goal.at.at-requires c).In_ok-state, c.args.entry.low)
 
-pub bounds-self-place-2 : goal.bounds-self-place-2
-bounds-self-place-2 c = omega (arith, low (goal.at.bounds-self-place-2 c).In_ok-state, c.args.entry.low)
+pub put-requires : goal.put-requires
+put-requires c = (low (goal.at.put-requires c).In_ok-state, c.args.entry.low)
 
 -- whether the step was given before
 twice_is : (c : In_ok-state) (h : Line) (es : List Line) → Drawn h es c.args.self.now → Says (letters (h ∷ es)) (line_of c.args.row.line) c.args.entry
-    → is_some (get_or c.args.self.now.steps (c.in_ok-state.state * 18 + c.args.entry.column) None) ≡ is_some (found (letters (h ∷ es)) (field 2 (line_of c.args.row.line)) c.args.entry.column es)
+    → is_some (cell c.args.self.now.steps.cells c.in_ok-state.state c.args.entry.column) ≡ is_some (found (letters (h ∷ es)) (field 2 (line_of c.args.row.line)) c.args.entry.column es)
 twice_is c h es D S =
     let l = line_of c.args.row.line in
     found_cell h es l c.args.self.now D c.in_ok-state.state c.args.entry.column (state_in c (names (h ∷ es)) (field 2 l) D.named S.state).1 (low c) c.args.entry.low
@@ -94,11 +95,10 @@ returns-then-is_some c h es D S =
     let t = next_in (goal.at.returns-then-is_some c).In_ok-to (with_name (names (h ∷ es)) (field 2 l)) (field 4 l) s.2 S.next in
     let col : entry_column (h ∷ es) l ≡ c.args.entry.column = ap (λ (o : Option ℕ). unwrap_or o 0) S.column in
     let f = twice_is (goal.at.returns-then-is_some c).In_ok-state h es D S in
-    let at = ap (λ (i : ℕ). is_some (get_or c.args.self.now.steps i None)) c.place_of-place.ensures in
     telling _ _ _ _ _ c.refused-then-is_some.ensures
     (step_twice (h ∷ es) l (sym (halts_is (goal.at.returns-then-is_some c).After-halts h es D S) ∙ c.if-halts.false) s.0 t.0
     (leads_is (goal.at.returns-then-is_some c).After-leads_out h es D S ∙ c.if-leads_out.false)
-    (ap (λ (n : ℕ). is_some (found (letters (h ∷ es)) (field 2 l) n es)) col ∙ sym f ∙ sym at ∙ sym c.is_some.ensures ∙ c.if-is_some.true))
+    (ap (λ (n : ℕ). is_some (found (letters (h ∷ es)) (field 2 l) n es)) col ∙ sym f ∙ sym (ap is_some c.at.ensures) ∙ sym c.is_some.ensures ∙ c.if-is_some.true))
 
 pub returns : goal.returns
 returns c h es D S =
@@ -107,11 +107,10 @@ returns c h es D S =
     let t = next_in (goal.at.returns c).In_ok-to (with_name (names (h ∷ es)) (field 2 l)) (field 4 l) s.2 S.next in
     let col : entry_column (h ∷ es) l ≡ c.args.entry.column = ap (λ (o : Option ℕ). unwrap_or o 0) S.column in
     let way : entry_direction l ≡ direction_number c.args.entry.direction = ap (λ (o : Option ℕ). unwrap_or o 0) S.direction in
-    let at = c.place_of-place.ensures in
-    let f : is_some (found (letters (h ∷ es)) (field 2 l) c.args.entry.column es) ≡ false = sym (twice_is (goal.at.returns c).In_ok-state h es D S) ∙ sym (ap (λ (i : ℕ). is_some (get_or c.args.self.now.steps i None)) at) ∙ sym c.is_some.ensures ∙ c.if-is_some.false in (
+    let f : is_some (found (letters (h ∷ es)) (field 2 l) c.args.entry.column es) ≡ false = sym (twice_is (goal.at.returns c).In_ok-state h es D S) ∙ sym (ap is_some c.at.ensures) ∙ sym c.is_some.ensures ∙ c.if-is_some.false in (
       step_good (h ∷ es) l (sym (halts_is (goal.at.returns c).After-halts h es D S) ∙ c.if-halts.false) s.0 t.0
           (leads_is (goal.at.returns c).After-leads_out h es D S ∙ c.if-leads_out.false)
           (ap (λ (n : ℕ). is_some (found (letters (h ∷ es)) (field 2 l) n es)) col ∙ f),
-      rw at (drawn_more h es l c.args.self.now D c.named-2.new.self c.in_ok-state.state c.args.entry.column c.args.row.number (record { to = c.in_ok-to.to; direction = c.args.entry.direction }) t.2 s.1 t.1 col way (low (goal.at.returns c).In_ok-state) c.args.entry.low (none_is (found (letters (h ∷ es)) (field 2 l) c.args.entry.column es) f)),
+      drawn_more h es l c.args.self.now D c.named-2.new.self c.in_ok-state.state c.args.entry.column c.args.row.number (record { to = c.in_ok-to.to; direction = c.args.entry.direction }) t.2 s.1 t.1 col way (low (goal.at.returns c).In_ok-state) c.args.entry.low (none_is (found (letters (h ∷ es)) (field 2 l) c.args.entry.column es) f) c.put.new.self c.put.ensures,
       refl,
     )

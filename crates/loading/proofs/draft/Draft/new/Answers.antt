@@ -55,4 +55,4 @@ returns-clause-drawn c h H =
     let a = accept_in (goal.at.returns-clause-drawn c).After-unwrap-accept h H s.1 in
     let w = c.named-3.ensures in
     let r = seated (with_name (with_name [] (field 3 h)) (field 4 h)) (field 5 h) (held c.named-2.new.self.names) (held c.named-3.new.self.names) c.args.header.reject a.1 H.reject w.keys c.unwrap-reject.result (sym c.unwrap-reject.ensures ∙ w.place) in
-    drawn_first h _ H r.2 s.0 a.0 r.1 refl
+    drawn_first h _ H r.2 s.0 a.0 r.1 c.none.ensures
