@@ -1,7 +1,7 @@
 // The library's walk, ask and build beside the simulation's runs.
 use crate::drawing::Drawing;
 use crate::random::Random;
-use crate::simulation::{Ending, Outcome, different_words, run};
+use crate::simulation::{Ending, Outcome, Tape, different_words};
 use alphabets::PlainLetters;
 use dfa::DfaRow;
 use engine::{Engine, Walked};
@@ -103,7 +103,11 @@ impl<'a> Comparison<'a> {
         }
         for _ in 0..10 {
             let word = self.any_word(drawing.letters)?;
-            let expected = run(heap, drawing, &word)?;
+            let tape = Tape {
+                drawing,
+                word: &word,
+            };
+            let expected = tape.run(heap)?;
             self.compare_walk(&engine, drawing, &word, expected)?;
             if built.is_ok() {
                 self.compare_ask(&engine, drawing, &word, expected)?;

@@ -79,12 +79,15 @@ impl Drawing {
         }
     }
 
-    // The steps as stored rules take them: one state's after the other's, with numbers for the ways.
-    pub(crate) fn numbered(&self) -> [(u8, u8); 576] {
-        std::array::from_fn(|i| {
-            let step = self.steps[i / 18][i % 18];
-            (step.to, step.way as u8)
-        })
+    // The steps as stored rules take them, with numbers for the ways.
+    pub(crate) fn numbered(&self) -> [[(u8, u8); 18]; 32] {
+        let mut numbered = [[(0, 0); 18]; 32];
+        for (row, steps) in numbered.iter_mut().zip(&self.steps) {
+            for (pair, step) in row.iter_mut().zip(steps) {
+                *pair = (step.to, step.way as u8);
+            }
+        }
+        numbered
     }
 }
 

@@ -4,7 +4,7 @@ use native.Mathlib.Decide.{dec_lt, ℕ_discrete}
 use Rattle.std.specs.Option.{ok_or}
 use Rattle.std.specs.List.{list_all}
 use Rattle.std.proofs.lemmas.List.{drop_more, get_or_past, take_all}
-use Rattle.std.proofs.Math.Bool.{and-true}
+use Rattle.std.proofs.Math.Bool.{and-true, and-false}
 use Rattle.std.proofs.lemmas.List.Folds.{list_all_more}
 use Rattle.std.proofs.lemmas.Bool.{and_parts, ltb-true, ltb-false, eqb-false}
 use Rattle.two_way.specs.declared.Verdict.{Verdict}
@@ -16,20 +16,29 @@ use Rattle.dfa.specs.Rows.{blank_row}
 use Rattle.dfa.specs.Shelved.{unshelved}
 use Rattle.dfa.specs.Asked.{leads, verdict_in, row_at, next_row, followed, asked}
 
--- a test of the first m cells; there are sixteen, and past them a letter leads to row 0
-pub leads_all : (m n : ℕ) (d : DfaRow) → 0 < n → list_all (λ k. ltb k n) (take m d.cells) ≡ leads m n d
+-- with no row in use no cell leads on
+none_lead : (m : ℕ) (d : DfaRow) → 1 ≤ m → leads m 0 d ≡ false
+none_lead zero d h = absurd (let z : ⊥ = omega arith in z)
+none_lead (suc m) d h = ap (λ b. leads m 0 d && b) (le-ltb (get_or d.cells m 0) 0 (omega arith)) ∙ and-false (leads m 0 d)
+
+-- a test of the first m cells; there are some, and past them a letter leads to row 0
+pub leads_all : (m n : ℕ) (d : DfaRow) → 0 < length d.cells → list_all (λ k. ltb k n) (take m d.cells) ≡ leads m n d
 leads_all zero n d h = refl
 leads_all (suc m) n d h = go (dec_lt m (length d.cells)) (leads_all m n d h)
   where
-    p : ℕ → Bool
-    p = λ k. ltb k n
+    past : length d.cells ≤ m → Dec (0 < n) → leads m n d ≡ leads m n d && ltb 0 n
+    past l (yes low) = sym (and-true (leads m n d)) ∙ ap (λ b. leads m n d && b) (sym (lt-ltb 0 n low))
+    past l (no none) =
+        let e : 0 ≡ n = omega arith in
+        let f : leads m n d ≡ false = ap (λ k. leads m k d) (sym e) ∙ none_lead m d (omega arith) in
+        f ∙ ap (λ b. b && ltb 0 n) (sym f)
 
     go : Dec (m < length d.cells) → list_all (λ k. ltb k n) (take m d.cells) ≡ leads m n d → list_all (λ k. ltb k n) (take (suc m) d.cells) ≡ leads (suc m) n d
     go (yes l) ih = ap (λ j. list_all (λ k. ltb k n) (take j d.cells)) (sym (add-one m)) ∙ list_all_more (λ k. ltb k n) d.cells m 0 l ∙ ap (λ b. b && ltb (get_or d.cells m 0) n) ih
     go (no l) ih =
-        let past : get_or d.cells m 0 ≡ 0 = get_or_past d.cells m 0 (omega arith) in
+        let cell : get_or d.cells m 0 ≡ 0 = get_or_past d.cells m 0 (omega arith) in
         let all = ap (list_all (λ k. ltb k n)) (take_all (suc m) d.cells (omega arith) ∙ sym (take_all m d.cells (omega arith))) in
-        all ∙ ih ∙ sym (and-true (leads m n d)) ∙ ap (λ b. leads m n d && b) (sym (ap (λ k. ltb k n) past ∙ lt-ltb 0 n h))
+        all ∙ ih ∙ past (omega arith) (dec_lt 0 n) ∙ ap (λ c. leads m n d && ltb c n) (sym cell)
 
 -- each of the first m cells is a row in use
 pub leads_at : (m a n : ℕ) (d : DfaRow) → a < m → leads m n d ≡ true → get_or d.cells a 0 < n

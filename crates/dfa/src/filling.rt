@@ -12,6 +12,7 @@ use rules::Rule;
 pub const CAPACITY: usize = 4096;
 
 // Writes the rows of the rule into the places, and says how many they are; blanks the places where the rows are more.
+// Two slices, not a struct of them, as in an engine's calls: what holds loans has to promise of them.
 pub fn fill<R: Rule>(rule: &R, tables: &mut [CrossingTable], dfa: &mut [DfaRow]) -> Option<usize>
     ensures rows { result ≡ rows_of (R.Rule.meaning rule.now) (capacity tables.old dfa.old) }
     ensures tables { tables.new ≡ tables_left (R.Rule.meaning rule.now) (capacity tables.old dfa.old) tables.old }

@@ -2,6 +2,8 @@
 ghost use Rattle.std.specs.Prelude.{◌≡◌, take, slice_index};
 ghost use Rattle.dfa.specs.Rows.{row_of, blank_row};
 
+use two_way::Verdict;
+
 #[repr(C)]
 #[derive(Clone, Copy, Debug)]
 pub struct DfaRow {
@@ -11,6 +13,8 @@ pub struct DfaRow {
 }
 
 impl DfaRow {
+    ghost use Rattle.dfa.specs.Asked.{leads, verdict_in};
+
     pub fn new(cells: [u16; 16], verdict: u8) -> DfaRow
         ensures { result ≡ row_of cells verdict }
     {
@@ -34,17 +38,37 @@ impl DfaRow {
         self.cells.get(letter).copied().unwrap_or(0)
     }
 
-    // The cells of the first letters; all sixteen where the letters are more.
-    pub(crate) fn first_cells(&self, letters: u8) -> &[u16]
-        ensures { result.now ≡ take letters self.now.cells }
-    {
-        &self.cells[..self.cells.len().min(letters as usize)]
-    }
-
     // The number of the verdict: 1 accepts, 2 rejects, 3 loops; any other is damage.
     pub fn verdict(&self) -> u8
         ensures { result ≡ self.now.verdict }
     {
         self.verdict
+    }
+
+    // The verdict, where the cells of the letters are rows in use, of which there are so many; none where a cell or the verdict is damaged.
+    pub fn sound_verdict(&self, letters: usize, rows: usize) -> Option<Verdict>
+        ensures { result ≡ verdict_in letters rows self.now }
+    {
+        if self.leads_on(letters, rows) {
+            Verdict::try_from(self.verdict).ok()
+        } else {
+            None
+        }
+    }
+
+    // A row has sixteen cells, and past them a letter leads to row 0.
+    fn leads_on(&self, letters: usize, rows: usize) -> bool
+        ensures { result ≡ leads letters rows self.now }
+    {
+        self.first_cells(letters)
+            .iter()
+            .all(|cell| (*cell as usize) < rows)
+    }
+
+    // The cells of the first letters; all sixteen where the letters are more.
+    fn first_cells(&self, letters: usize) -> &[u16]
+        ensures { result.now ≡ take letters self.now.cells }
+    {
+        &self.cells[..letters.min(self.cells.len())]
     }
 }

@@ -1,7 +1,7 @@
 // The rows in use of a one-way table.
 ghost use Rattle.std.specs.Prelude.{◌≡◌, ℕ, ◌<◌, length, take, Some, None, IfOk, MatchResult};
 ghost use Rattle.dfa.specs.Shelved.{unshelved};
-ghost use Rattle.dfa.specs.Asked.{leads, verdict_in, row_at, next_row};
+ghost use Rattle.dfa.specs.Asked.{verdict_in, row_at, next_row};
 
 use crate::rows::DfaRow;
 use refusals::{Fault, Refusal};
@@ -47,11 +47,7 @@ impl<'a> Shelf<'a> {
     pub fn verdict(&self, row: &DfaRow) -> Option<Verdict>
         ensures { result ≡ verdict_in self.now.letters (length self.now.rows.now) row.now }
     {
-        if self.leads_on(row) {
-            Verdict::try_from(row.verdict()).ok()
-        } else {
-            None
-        }
+        row.sound_verdict(self.letters as usize, self.rows.len())
     }
 
     // The verdict of the row with this number.
@@ -70,14 +66,5 @@ impl<'a> Shelf<'a> {
         let row = &self.rows[row];
         self.verdict(row)?;
         Some(row.cell(letter as usize) as usize)
-    }
-
-    // Whether the cell of each letter is a row of the shelf. A row has sixteen cells, and past them a letter leads to row 0.
-    fn leads_on(&self, row: &DfaRow) -> bool
-        ensures { result ≡ leads self.now.letters (length self.now.rows.now) row.now }
-    {
-        row.first_cells(self.letters)
-            .iter()
-            .all(|cell| (*cell as usize) < self.rows.len())
     }
 }

@@ -1,4 +1,4 @@
-// The calls for programs in other languages: numbers, bytes and rows, and a code in place of a result.
+// The calls for programs in other languages, by what C knows: numbers and slices each for itself, and a code in place of a result.
 
 #![tactic(auto)]
 

@@ -16,6 +16,7 @@ use register::CrossingTable;
 use rules::Rule;
 
 // Reads a sheet, builds its rule over plain letters and writes the listing; answers how many bytes that has.
+// Three slices, not a struct of them, as in an engine's calls: what holds loans has to promise of them.
 pub fn fold_sheet(
     sheet: &[u8],
     tables: &mut [CrossingTable],

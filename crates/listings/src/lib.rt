@@ -31,7 +31,7 @@ pub fn write_listing<R: Rule, L: Alphabet>(
     write_rows(engine.rows(), engine.letters(), dfa, out)
 }
 
-// The same for a table with this many rows in use and this many letters, whoever built it.
+// The same for a table with this many rows in use and this many letters, whoever built it: numbers, as C and a loader have them.
 pub fn write_rows(
     rows: usize,
     letters: u8,
@@ -76,12 +76,10 @@ mod tests {
     use rules::DistanceRule;
     use std::test::Fail;
 
-    // The number by which a listing is refused, 0 where it is not.
-    fn refused(rows: usize, dfa: &[DfaRow], out: &mut [u8]) -> u8 {
-        match write_rows(rows, 1, dfa, out) {
-            Ok(_) => 0,
-            Err(refusal) => refusal.fault.into(),
-        }
+    // The number by which a listing is refused, if it is.
+    fn refused(rows: usize, dfa: &[DfaRow], out: &mut [u8]) -> Option<u8> {
+        let refusal = write_rows(rows, 1, dfa, out).err()?;
+        Some(u8::from(refusal.fault))
     }
 
     #[test]
@@ -96,21 +94,18 @@ mod tests {
     fn a_refusal_writes_nothing(rt: HostRuntime) {
         let mut dfa = [DfaRow::new([1; 16], 3); 2];
         let mut out = [b'.'; 29];
-        assert_eq!(rt; refused(0, &dfa, &mut out), 13);
-        assert_eq!(rt; refused(3, &dfa, &mut out), 16);
-        assert_eq!(rt; refused(1, &dfa, &mut out), 16);
-        assert_eq!(rt; refused(2, &dfa, &mut out), 19);
+        assert_eq!(rt; refused(0, &dfa, &mut out), Some(13));
+        assert_eq!(rt; refused(3, &dfa, &mut out), Some(16));
+        assert_eq!(rt; refused(1, &dfa, &mut out), Some(16));
+        assert_eq!(rt; refused(2, &dfa, &mut out), Some(19));
         dfa[1] = DfaRow::new([1; 16], 4);
-        assert_eq!(rt; refused(2, &dfa, &mut out), 16);
+        assert_eq!(rt; refused(2, &dfa, &mut out), Some(16));
         assert!(rt; out == [b'.'; 29]);
     }
 
     #[test]
     fn an_engine_is_listed(rt: HostRuntime) -> Result<(), Fail> {
-        let Ok(rule) = DistanceRule::new(1, 2, 0b10) else {
-            assert!(rt; false);
-            return Ok(());
-        };
+        let rule = DistanceRule::new(1, 2, 0b10)?;
         let mut engine = Engine::new(rule, PlainLetters::new(2));
         let mut tables = [CrossingTable::new([0; 33]); 4];
         let mut dfa = [DfaRow::blank(); 4];

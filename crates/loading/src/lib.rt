@@ -61,19 +61,14 @@ mod tests {
 
     // The number of the condition, its line and its field; none where the sheet is taken.
     fn refusal(sheet: &[u8]) -> Option<(u8, u32, u8)> {
-        match read_sheet(sheet) {
-            Ok(_) => None,
-            Err(refusal) => Some((u8::from(refusal.fault), refusal.line, refusal.field)),
-        }
+        let refusal = read_sheet(sheet).err()?;
+        Some((u8::from(refusal.fault), refusal.line, refusal.field))
     }
 
     #[test]
     fn a_sheet_spells_a_rule(rt: HostRuntime) -> Result<(), Fail> {
         let sheet = b"rule\t1\tw\tyes\tno\nat\tw\t<\tw\tR\nat\tw\t0\tw\tL\nat\tw\t>\tw\tL\n";
-        let Ok(rule) = read_sheet(sheet) else {
-            assert!(rt; false);
-            return Ok(());
-        };
+        let rule = read_sheet(sheet)?;
         assert_eq!(rt; (rule.states(), rule.letters()), (3, 1));
         assert_eq!(rt; (rule.start(), rule.accept(), rule.reject()), (0, 1, 2));
         let step = |to, direction| Some(Move { to, direction });

@@ -5,7 +5,7 @@ use crate::numbers::Numbers;
 pub mod answers;
 
 // A rule that holds its steps: a row for each state, and in it a step for each column.
-// They are held as they are given, directions as numbers, since those past the states and the columns may be no direction.
+// They are held as they are given, directions as numbers: a type would refuse callers whose steps, past the states and the columns, are none.
 #[derive(Clone, Copy, Debug)]
 pub struct StoredRule {
     numbers: Numbers,

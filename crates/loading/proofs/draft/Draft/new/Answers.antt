@@ -1,4 +1,4 @@
-use Rattle.std.proofs.Common.{◌≡◌, [], map, Some, sym, refl, ◌∙◌, arith}
+use Rattle.std.proofs.Common.{◌≡◌, [], map, Some, sym, ◌∙◌, arith}
 use Rattle.text.specs.Lines.{Line}
 use Rattle.register.specs.Names.{as_name}
 use Rattle.register.specs.Held.{held}

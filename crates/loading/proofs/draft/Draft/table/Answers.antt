@@ -1,4 +1,4 @@
-use Rattle.std.proofs.Common.{◌≡◌, ℕ, ◌<◌, ◌≢◌, List, [], length, get_or, ap, ◌∙◌, arith, get_or-set_other, get_or-set_same, length-set, below_more}
+use Rattle.std.proofs.Common.{ℕ, ◌<◌, ◌≢◌, List, [], length, get_or, ap, ◌∙◌, arith, get_or-set_other, get_or-set_same, length-set, below_more}
 use Rattle.std.proofs.lemmas.List.FromFn.{get_or-map-range_with_len}
 use Rattle.loading.specs.Drawn.{settled}
 use Rattle.loading.proofs.draft.Draft.table.Goals as goal
