@@ -58,9 +58,6 @@ Cells A t xs a cells =
     × ((b : ℕ) → a ≤ b → b < 16 → get_or cells b 0 ≡ 0)
 
 module _ (A : Automaton) (t : CrossingTable) (xs : List CrossingTable) where
-  pub no_cells : Cells A t xs 0 (replicate 16 0)
-  no_cells = (refl, λ b h. absurd (omega arith), λ b h l. get_or-replicate 16 b 0 0 l)
-
   pub one_cell : (a : ℕ) (cells : List ℕ) (v : ℕ) → a < 16 → v ≡ place (lettered A t xs (suc a)) (extended_of A t a) → Cells A t xs a cells → Cells A t xs (a + 1) (set cells a v)
   one_cell a cells v few e c =
       subst (λ n. Cells A t xs n (set cells a v)) (sym (add-one a))

@@ -57,27 +57,16 @@ module _ (A : Automaton) (c : ℕ → ℕ) (limit n : ℕ) (x : Config) (more : 
   left : limit + 1 - n ≡ suc (limit - n)
   left = omega arith
 
-  pub turn_accepts : x.state ≡ A.accept → walk_from A c limit (limit + 1 - n) x n ≡ found Verdict.Accepts n
-  turn_accepts e =
-      ap (λ f. walk_from A c limit f x n) left
-      ∙ ap (λ b. cond b (found Verdict.Accepts n) (cond (eqb x.state A.reject) (found Verdict.Rejects n) (walk_from A c limit (limit - n) (step A c x) (suc n)))) (eq-eqb x.state A.accept e)
-
   after_accept : (x.state ≡ A.accept → ⊥) → walk_from A c limit (limit + 1 - n) x n ≡ cond (eqb x.state A.reject) (found Verdict.Rejects n) (walk_from A c limit (limit - n) (step A c x) (suc n))
   after_accept e =
       ap (λ f. walk_from A c limit f x n) left
       ∙ ap (λ b. cond b (found Verdict.Accepts n) (cond (eqb x.state A.reject) (found Verdict.Rejects n) (walk_from A c limit (limit - n) (step A c x) (suc n)))) (ne_eqb x.state A.accept e)
-
-  pub turn_rejects : (x.state ≡ A.accept → ⊥) → x.state ≡ A.reject → walk_from A c limit (limit + 1 - n) x n ≡ found Verdict.Rejects n
-  turn_rejects a e = after_accept a ∙ ap (λ b. cond b (found Verdict.Rejects n) (walk_from A c limit (limit - n) (step A c x) (suc n))) (eq-eqb x.state A.reject e)
 
   pub turn_goes : (x.state ≡ A.accept → ⊥) → (x.state ≡ A.reject → ⊥) → (y : Config) → y ≡ step A c x → walk_from A c limit (limit + 1 - n) x n ≡ walk_from A c limit (limit + 1 - (n + 1)) y (n + 1)
   turn_goes a b y e =
       let u : limit - n ≡ limit + 1 - (n + 1) = omega arith in
       after_accept a ∙ (ap (λ t. cond t (found Verdict.Rejects n) (walk_from A c limit (limit - n) (step A c x) (suc n))) (ne_eqb x.state A.reject b)
       ∙ (ap (λ f. walk_from A c limit f (step A c x) (suc n)) u ∙ (ap (λ z. walk_from A c limit (limit + 1 - (n + 1)) z (suc n)) (sym e) ∙ ap (walk_from A c limit (limit + 1 - (n + 1)) y) (sym (add-one n)))))
-
-pub turn_ends : (A : Automaton) (c : ℕ → ℕ) (limit n : ℕ) (x : Config) → limit + 1 ≤ n → walk_from A c limit (limit + 1 - n) x n ≡ found Verdict.Loops limit
-turn_ends A c limit n x h = let e : limit + 1 - n ≡ 0 = omega arith in ap (λ f. walk_from A c limit f x n) e
 
 pub starts : (A : Automaton) (w : List ℕ) (limit s : ℕ) → limit ≡ most A (length w) → s ≡ A.start → walked A w ≡ walk_from A (column A w) limit (limit + 1 - 0) (record { state = s; place = 0 }) 0
 starts A w limit s e f =

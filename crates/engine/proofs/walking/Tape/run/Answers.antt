@@ -1,7 +1,7 @@
 use Rattle.std.proofs.Common.{◌≡◌, ◌+◌, ◌-◌, ◌*◌, map, length, sym, ap, ◌∙◌, arith}
 use Rattle.std.proofs.lemmas.List.{length-map}
 use Rattle.two_way.specs.Runs.{Config, column, most}
-use Rattle.engine.proofs.Steps.{turn_accepts, turn_rejects, turn_goes, turn_ends, starts}
+use Rattle.engine.proofs.Steps.{turn_goes, starts}
 use Rattle.engine.proofs.walking.Tape.run.Goals as goal
 
 pub loop-steps-init : goal.loop-steps-init
@@ -16,24 +16,6 @@ loop-steps-init g c =
     let low = (g.met.R.Rule.lawful s.rule.now).start_in in
     (omega (arith, low, c.start.ensures), omega arith, starts A w limit c.start.result e c.start.ensures)
 
-pub returns-then-at-accept : goal.returns-then-at-accept
-returns-then-at-accept g c =
-    let s = c.args.self.now in
-    let A = g.R.Rule.meaning s.rule.now in
-    let ms = s.marks.now in
-    let w = map (g.L.Alphabet.letter s.alphabet.now) ms in
-    let x : Config = record { state = c.loop-steps.at.state; place = c.loop-steps.at.place } in
-    sym (c.loop-steps.invariant.2 ∙ turn_accepts A (column A w) ((c.states.result - 2) * (length ms + 2)) c.loop-steps.steps x c.loop-steps-test.true (c.if-at-accept.true ∙ c.accept.ensures))
-
-pub returns-then-at-reject : goal.returns-then-at-reject
-returns-then-at-reject g c =
-    let s = c.args.self.now in
-    let A = g.R.Rule.meaning s.rule.now in
-    let ms = s.marks.now in
-    let w = map (g.L.Alphabet.letter s.alphabet.now) ms in
-    let x : Config = record { state = c.loop-steps.at.state; place = c.loop-steps.at.place } in
-    sym (c.loop-steps.invariant.2 ∙ turn_rejects A (column A w) ((c.states.result - 2) * (length ms + 2)) c.loop-steps.steps x c.loop-steps-test.true (λ e. c.if-at-accept.false (e ∙ sym c.accept.ensures)) (c.if-at-reject.true ∙ c.reject.ensures))
-
 pub loop-steps-preserved : goal.loop-steps-preserved
 loop-steps-preserved g c =
     let s = c.args.self.now in
@@ -46,12 +28,3 @@ loop-steps-preserved g c =
       c.advance-at.ensures.within,
       c.loop-steps.invariant.2 ∙ turn_goes A (column A w) ((c.states.result - 2) * (length ms + 2)) c.loop-steps.steps x c.loop-steps-test.true (λ e. c.if-at-accept.false (e ∙ sym c.accept.ensures)) (λ e. c.if-at-reject.false (e ∙ sym c.reject.ensures)) y c.advance-at.ensures.after,
     )
-
-pub returns : goal.returns
-returns g c =
-    let s = c.args.self.now in
-    let A = g.R.Rule.meaning s.rule.now in
-    let ms = s.marks.now in
-    let w = map (g.L.Alphabet.letter s.alphabet.now) ms in
-    let x : Config = record { state = c.loop-steps.at.state; place = c.loop-steps.at.place } in
-    sym (c.loop-steps.invariant.2 ∙ turn_ends A (column A w) ((c.states.result - 2) * (length ms + 2)) c.loop-steps.steps x c.loop-steps-test.false)
