@@ -1,15 +1,14 @@
 // The library's walk, ask and build beside the simulation's runs.
 use crate::drawing::Drawing;
 use crate::random::Random;
-use crate::simulation::{Ending, Outcome, Tape, different_words};
+use crate::simulation::{Outcome, Tape, different_words};
 use alphabets::PlainLetters;
 use dfa::DfaRow;
-use engine::{Engine, Walked};
+use engine::Engine;
 use register::{Blank, CrossingTable};
 use rules::Rule;
 use std::alloc::{AllocError, Global};
 use std::fmt;
-use two_way::Verdict;
 
 // The rows that are lent to builds.
 #[derive(Drop)]
@@ -24,25 +23,6 @@ impl Memory {
             tables: vec![in heap; CrossingTable::blank(); places]?,
             dfa: vec![in heap; DfaRow::blank(); places]?,
         })
-    }
-}
-
-impl From<Verdict> for Ending {
-    fn from(verdict: Verdict) -> Ending {
-        match verdict {
-            Verdict::Accepts => Ending::Accepts,
-            Verdict::Rejects => Ending::Rejects,
-            Verdict::Loops => Ending::Loops,
-        }
-    }
-}
-
-impl From<Walked> for Outcome {
-    fn from(walked: Walked) -> Outcome {
-        Outcome {
-            ending: Ending::from(walked.verdict),
-            steps: walked.steps,
-        }
     }
 }
 
@@ -138,8 +118,10 @@ impl<'a> Comparison<'a> {
         expected: Outcome,
     ) -> anyhow::Result<()> {
         self.tally.walks = self.tally.walks.saturating_add(1);
-        if engine.walk(word).ok().map(Outcome::from) == Some(expected) {
-            return Ok(());
+        if let Ok(walked) = engine.walk(word) {
+            if u8::from(walked.verdict) == expected.ending as u8 && walked.steps == expected.steps {
+                return Ok(());
+            }
         }
         self.mismatch("walk", drawing, word)
     }
@@ -153,9 +135,10 @@ impl<'a> Comparison<'a> {
         expected: Outcome,
     ) -> anyhow::Result<()> {
         self.tally.asks = self.tally.asks.saturating_add(1);
-        let asked = engine.ask(&self.memory.dfa, word);
-        if asked.ok().map(Ending::from) == Some(expected.ending) {
-            return Ok(());
+        if let Ok(verdict) = engine.ask(&self.memory.dfa, word) {
+            if u8::from(verdict) == expected.ending as u8 {
+                return Ok(());
+            }
         }
         self.mismatch("ask", drawing, word)
     }

@@ -1,14 +1,14 @@
 // Worked samples, made on the library's own calls.
 use crate::comparing::Memory;
+use crate::simulation::Ending;
 use alphabets::{Alphabet, PlainLetters};
 use dfa::DfaRow;
-use engine::{Engine, Walked};
+use engine::Engine;
 use folding::fold_sheet;
 use loading::read_sheet;
 use refusals::{Fault, Refusal};
 use rules::{DistanceRule, PairRule, Rule};
 use std::alloc::{AllocError, Global};
-use two_way::Verdict;
 
 const RESTLESS: &[u8] = b"rule\t1\tw\tyes\tno\nat\tw\t<\tw\tR\nat\tw\t0\tw\tL\nat\tw\t>\tw\tL\n";
 
@@ -17,9 +17,12 @@ const RESTLESS_LISTING: &[u8] = b"shelf\t2\t1\nrow\t0\t3\t1\nrow\t1\t3\t1\n";
 const CONTENT: &[u8] = b"rule\t1\tw\tw\tno\n";
 
 // Whether a walk has this verdict and this count.
-fn walks<R: Rule + Drop>(rule: R, word: &[u8], verdict: Verdict, steps: u32) -> bool {
+fn walks<R: Rule + Drop>(rule: R, word: &[u8], verdict: Ending, steps: u32) -> bool {
     let letters = PlainLetters::new(rule.letters());
-    Engine::new(rule, letters).walk(word).ok() == Some(Walked { verdict, steps })
+    match Engine::new(rule, letters).walk(word) {
+        Ok(walked) => u8::from(walked.verdict) == verdict as u8 && walked.steps == steps,
+        Err(_) => false,
+    }
 }
 
 // Whether a build with that many places has so many rows, and these first: two cells and the verdict.
@@ -28,7 +31,7 @@ fn builds<R: Rule + Drop>(
     rule: R,
     places: usize,
     rows: usize,
-    first: &[(u16, u16, Verdict)],
+    first: &[(u16, u16, Ending)],
 ) -> Result<bool, AllocError> {
     let letters = PlainLetters::new(rule.letters());
     let mut memory = Memory::new(heap, places)?;
@@ -36,9 +39,9 @@ fn builds<R: Rule + Drop>(
     Ok(built.ok() == Some(rows) && rows_are(&memory.dfa, first))
 }
 
-fn rows_are(dfa: &[DfaRow], expected: &[(u16, u16, Verdict)]) -> bool {
+fn rows_are(dfa: &[DfaRow], expected: &[(u16, u16, Ending)]) -> bool {
     dfa.iter().zip(expected).all(|(row, (first, second, verdict))| {
-        row.cell(0) == *first && row.cell(1) == *second && row.verdict() == u8::from(*verdict)
+        row.cell(0) == *first && row.cell(1) == *second && row.verdict() == *verdict as u8
     })
 }
 
@@ -64,19 +67,19 @@ fn back(distance: u8) -> Result<DistanceRule, Refusal> {
 }
 
 fn of_distance(heap: Global) -> anyhow::Result<bool> {
-    let one = [(1, 0, Verdict::Rejects), (1, 0, Verdict::Accepts)];
+    let one = [(1, 0, Ending::Rejects), (1, 0, Ending::Accepts)];
     let two = [
-        (1, 0, Verdict::Rejects),
-        (2, 3, Verdict::Rejects),
-        (2, 3, Verdict::Accepts),
-        (1, 0, Verdict::Accepts),
+        (1, 0, Ending::Rejects),
+        (2, 3, Ending::Rejects),
+        (2, 3, Ending::Accepts),
+        (1, 0, Ending::Accepts),
     ];
     Ok(
         builds(heap, back(1)?, 16, 2, &one)?
             && builds(heap, back(2)?, 4, 4, &two)?
             && overflows(heap, back(2)?, 3)?
-            && walks(back(1)?, &[0], Verdict::Accepts, 4)
-            && walks(back(1)?, &[], Verdict::Rejects, 3),
+            && walks(back(1)?, &[0], Ending::Accepts, 4)
+            && walks(back(1)?, &[], Ending::Rejects, 3),
     )
 }
 
@@ -85,10 +88,10 @@ fn of_sheets(heap: Global) -> anyhow::Result<bool> {
     let content = read_sheet(CONTENT)?;
     Ok(
         lists(heap, RESTLESS, RESTLESS_LISTING)?
-            && walks(restless, &[], Verdict::Loops, 2)
-            && walks(restless, &[0], Verdict::Loops, 3)
-            && builds(heap, content, 16, 1, &[(0, 0, Verdict::Accepts)])?
-            && walks(content, &[], Verdict::Accepts, 0),
+            && walks(restless, &[], Ending::Loops, 2)
+            && walks(restless, &[0], Ending::Loops, 3)
+            && builds(heap, content, 16, 1, &[(0, 0, Ending::Accepts)])?
+            && walks(content, &[], Ending::Accepts, 0),
     )
 }
 
@@ -97,7 +100,7 @@ fn of_pairs() -> anyhow::Result<bool> {
     let fit = PairRule::new(back(13)?, back(13)?);
     let twice = PairRule::new(back(1)?, back(1)?);
     Ok(
-        walks(twice, &[0], Verdict::Accepts, 10)
+        walks(twice, &[0], Ending::Accepts, 10)
             && fit.check() == Ok(())
             && misfit.check() == Err(Refusal::unplaced(Fault::PairMisfit)),
     )

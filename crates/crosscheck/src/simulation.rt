@@ -3,11 +3,12 @@ use crate::drawing::{Drawing, Way};
 use std::alloc::{AllocError, Global};
 use std::collections::{BTreeSet, VecDeque};
 
+// How a run ends, by numbers of the simulation's own: the library's have to be the same.
 #[derive(Clone, Copy, PartialEq, Eq)]
 pub enum Ending {
-    Accepts,
-    Rejects,
-    Loops,
+    Accepts = 1,
+    Rejects = 2,
+    Loops = 3,
 }
 
 // What a run came to, and its steps.

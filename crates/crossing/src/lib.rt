@@ -29,6 +29,13 @@ pub fn empty_table<R: Rule>(rule: &R) -> CrossingTable
 pub fn extended_table<R: Rule>(rule: &R, before: &CrossingTable, letter: u8) -> CrossingTable
     ensures { result ≡ extended_of (R.Rule.meaning rule.now) before.now letter }
 {
+    table_after(rule, before, letter)
+}
+
+// The same, answer by answer. Apart from it, since this has a written proof: a planted bug is refused above, at the code.
+fn table_after<R: Rule>(rule: &R, before: &CrossingTable, letter: u8) -> CrossingTable
+    ensures { result ≡ extended_of (R.Rule.meaning rule.now) before.now letter }
+{
     let first = first_after(rule, before, letter);
     table_of(rule, first, |state| crossed(rule, before, letter, state))
 }

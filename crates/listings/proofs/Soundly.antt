@@ -1,15 +1,12 @@
 -- Rows in use that are sound, row by row.
-use Rattle.std.proofs.Common.{◌≡◌, ℕ, zero, suc, ◌<◌, ◌≤◌, Bool, true, false, cond, not, ◌&&◌, ◌||◌, eqb, ltb, List, [], ◌++◌, length, get_or, take, is_some, None, Err, sym, refl, ap, ◌∙◌, add-one, arith, length-take-le, ne_eqb, le-ltb}
+use Rattle.std.proofs.Common.{◌≡◌, ℕ, zero, suc, ◌<◌, ◌≤◌, true, ◌&&◌, List, [], ◌++◌, length, get_or, take, is_some, IfOk, Some, None, Ok, Err, Result, MatchResult, sym, refl, ap, ◌∙◌, add-one, arith, length-take-le}
 use native.Mathlib.Decide.{ℕ_discrete}
-use Rattle.std.specs.Option.{ok_or}
 use Rattle.std.specs.List.{list_all}
 use Rattle.std.proofs.Math.Seq.{take-length}
 use Rattle.std.proofs.lemmas.List.{get_or_default}
 use Rattle.std.proofs.lemmas.List.Folds.{list_all_more}
 use Rattle.std.proofs.lemmas.Bool.{and_parts}
-use Rattle.refusals.specs.declared.fault.Fault.TheVariants.{NoRows, DamagedTable, ListingTooLong}
-use Rattle.refusals.specs.Line.{unplaced}
-use Rattle.text.specs.Output.{room, put}
+use Rattle.refusals.specs.declared.refusal.Refusal.{Refusal}
 use Rattle.dfa.specs.declared.rows.DfaRow.{DfaRow}
 use Rattle.dfa.specs.declared.shelf.Shelf.{Shelf}
 use Rattle.dfa.specs.Rows.{row_of, blank_row}
@@ -17,7 +14,7 @@ use Rattle.dfa.specs.Shelved.{unshelved}
 use Rattle.dfa.specs.Asked.{verdict_in, row_at}
 use Rattle.dfa.proofs.Following.{row_taken, shelved}
 use Rattle.listings.specs.Listing.{line, head_fields, row_fields, listing}
-use Rattle.listings.specs.Listed.{sound, shelf_listing, damaged, listed_answer, listed_bytes}
+use Rattle.listings.specs.Listed.{sound, shelf_listing, Shelved}
 use Rattle.listings.proofs.Placing.{joined_same}
 
 -- a test of each row
@@ -69,26 +66,11 @@ module _ (n m : ℕ) (ds : List DfaRow) (s : Shelf) (u : unshelved n ds ≡ None
       ∙ ap (λ t. line (head_fields n m) ++ t)
       (joined_same (λ i. line (row_fields m i (row_at (take n ds) i))) (λ i. line (row_fields m i (row_at ds i))) n (λ i h. ap (λ d. line (row_fields m i d)) (row_taken n i ds h)))
 
-  few : eqb n 0 ≡ false
-  few = ne_eqb n 0 (λ z. omega (arith, low.0))
+  pub shelved_as : Shelved n m ds s
+  shelved_as = record { some = λ z. omega (arith, low.0); enough = low.1; sounds = shelf_sound; lists = shelf_listed }
 
-  enough : ltb (length ds) n ≡ false
-  enough = le-ltb (length ds) n low.1
-
-  pub damage : (b : Bool) → sound n m ds n ≡ b → damaged n m ds ≡ not b
-  damage b e = (λ i. enough i || not (e i))
-
-  pub refused_as : (out : List ℕ) → sound n m ds n ≡ false → (Err (unplaced DamagedTable) ≡ listed_answer n m ds out) × (out ≡ listed_bytes n m ds out)
-  refused_as out e =
-      let d = damage false e in (
-        (λ i. cond (sym few i) (Err (unplaced NoRows)) (cond (sym d i) (Err (unplaced DamagedTable)) (ok_or (room (listing n m ds) out) (unplaced ListingTooLong)))),
-        (λ i. cond (sym few i) out (cond (sym d i) out (put (listing n m ds) out))),
-      )
-
-  pub answered_as : (out : List ℕ) → sound n m ds n ≡ true
-      → (ok_or (room (shelf_listing s) out) (unplaced ListingTooLong) ≡ listed_answer n m ds out) × (put (shelf_listing s) out ≡ listed_bytes n m ds out)
-  answered_as out e =
-      let d = damage true e in (
-        (λ i. cond (sym few i) (Err (unplaced NoRows)) (cond (sym d i) (Err (unplaced DamagedTable)) (ok_or (room (shelf_listed i) out) (unplaced ListingTooLong)))),
-        (λ i. cond (sym few i) out (cond (sym d i) out (put (shelf_listed i) out))),
-      )
+-- the same of what a shelf is made of
+pub shelved_result : (n m : ℕ) (ds : List DfaRow) (r : Result Shelf Refusal) → MatchResult r (λ _. unshelved n ds ≡ None) (λ e. unshelved n ds ≡ Some e) → IfOk r (λ s. s.rows.now ≡ take n ds) → IfOk r (λ s. s.letters ≡ m)
+    → MatchResult r (λ s. Shelved n m ds s) (λ e. unshelved n ds ≡ Some e)
+shelved_result n m ds (Ok s) u rows letters = shelved_as n m ds s u rows letters
+shelved_result n m ds (Err e) u rows letters = u

@@ -1,5 +1,5 @@
 -- What a listing call answers and leaves. Assumes nothing.
-use Rattle.std.specs.Prelude.{ℕ, zero, suc, Bool, true, cond, not, ◌&&◌, ◌||◌, List, length, is_some, Err, Result, ◌==◌, nat_lt}
+use Rattle.std.specs.Prelude.{◌≡◌, ℕ, zero, suc, ◌≤◌, Bool, true, cond, not, ◌&&◌, ◌||◌, List, length, is_some, Err, Result, ◌==◌, ◌≢◌, nat_lt}
 use Rattle.std.specs.Option.{ok_or}
 use Rattle.std.specs.List.{range_with_len, flat_map}
 use Rattle.refusals.specs.declared.fault.Fault.TheVariants.{NoRows, DamagedTable, ListingTooLong}
@@ -26,6 +26,13 @@ shelf_rows s = flat_map (λ i. line (row_fields s.letters i (row_at s.rows.now i
 
 abbrev pub shelf_listing : Shelf → List ℕ
 shelf_listing s = listing (length s.rows.now) s.letters s.rows.now
+
+-- a shelf whose rows are sound, and are listed, as the first n of these
+pub record Shelved (n m : ℕ) (ds : List DfaRow) (s : Shelf) : Type 0 where
+  pub some : n ≢ 0
+  pub enough : n ≤ length ds
+  pub sounds : sound (length s.rows.now) s.letters s.rows.now (length s.rows.now) ≡ sound n m ds n
+  pub lists : shelf_listing s ≡ listing n m ds
 
 -- refused by 13, 16 and 19 in this order, or how many bytes are written
 abbrev pub listed_answer : ℕ → ℕ → List DfaRow → List ℕ → Result ℕ Refusal

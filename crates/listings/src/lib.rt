@@ -2,10 +2,11 @@
 
 #![tactic(auto)]
 
-ghost use Rattle.std.specs.Prelude.{◌≡◌, length, OnOk};
+ghost use Rattle.std.specs.Prelude.{◌≡◌, length, OnOk, Some, MatchResult};
 ghost use Rattle.text.specs.Output.{room, put};
 ghost use Rattle.listings.specs.Listing.{ListedAlone};
-ghost use Rattle.listings.specs.Listed.{sound, shelf_listing, listed_answer, listed_bytes};
+ghost use Rattle.dfa.specs.Shelved.{unshelved};
+ghost use Rattle.listings.specs.Listed.{sound, shelf_listing, Shelved, listed_answer, listed_bytes};
 
 mod lines;
 mod writing;
@@ -42,11 +43,26 @@ pub fn write_rows(
     ensures out { out.new ≡ listed_bytes rows letters dfa.now out.old }
     ensures law { OnOk result (ListedAlone rows letters dfa.now) }
 {
-    let shelf = Shelf::new(rows, letters, dfa)?;
+    write_sound(rows, letters, dfa, out)
+}
+
+// The call itself: the conditions are looked for in the order of their numbers.
+fn write_sound(rows: usize, letters: u8, dfa: &[DfaRow], out: &mut [u8]) -> Result<usize, Refusal>
+    ensures answer { result ≡ listed_answer rows letters dfa.now out.old }
+    ensures out { out.new ≡ listed_bytes rows letters dfa.now out.old }
+{
+    let shelf = shelf_of(rows, letters, dfa)?;
     if !is_sound(&shelf) {
         return Err(Refusal::unplaced(Fault::DamagedTable));
     }
     write_all(&shelf, out).ok_or(Refusal::unplaced(Fault::ListingTooLong))
+}
+
+// The rows in use, with what their listing is to that of the table.
+fn shelf_of<'a>(rows: usize, letters: u8, dfa: &'a [DfaRow]) -> Result<Shelf<'a>, Refusal>
+    ensures { MatchResult result (λ shelf. Shelved rows letters dfa.now shelf) (λ refusal. unshelved rows dfa.now ≡ Some refusal) }
+{
+    Shelf::new(rows, letters, dfa)
 }
 
 // Whether each row has a verdict and leads to rows of the shelf.

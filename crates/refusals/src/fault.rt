@@ -1,7 +1,10 @@
 // The conditions by which a call is refused.
-ghost use Rattle.std.specs.Prelude.{◌≡◌};
+ghost use Rattle.std.specs.Prelude.{◌≡◌, ◌↔◌, nat_eq, IsTrue};
+ghost use Rattle.std.specs.Ordering.{on};
 ghost use Rattle.refusals.specs.Numbers.{number_of, layer_of, layer_number};
 ghost use Rattle.refusals.specs.declared.fault.Fault.{Fault};
+ghost use Rattle.std.specs.Cmp.Rules.{comparing};
+ghost use Rattle.std.proofs.Common.{rules};
 
 // Where in the work a condition is found.
 #[derive(Clone, Copy, PartialEq, Eq, Debug)]
@@ -22,7 +25,7 @@ impl From<Layer> for u8 {
 }
 
 // One case for each condition.
-#[derive(Clone, Copy, Debug, PartialEq, Eq)]
+#[derive(Clone, Copy, Debug, Eq)]
 pub enum Fault {
     // The sheet has more than 32,768 bytes.
     SheetTooLong = 1,
@@ -87,5 +90,19 @@ impl Fault {
             Fault::EndDirection | Fault::StepTwice | Fault::StepMissing => Layer::Rule,
             _ => Layer::Engine,
         }
+    }
+}
+
+// Two faults are the same exactly where their numbers are. Not derived: its contract says that equality is sameness.
+impl PartialEq for Fault {
+    ghost eq = { on number_of nat_eq };
+
+    ghost laws = { Prim.search (comparing, rules) };
+
+    fn eq(&self, other: &Fault) -> bool
+        ensures value { result ≡ on number_of nat_eq self.now other.now }
+        ensures same { IsTrue result ↔ (self.now ≡ other.now) }
+    {
+        u8::from(*self) == u8::from(*other)
     }
 }

@@ -3,6 +3,7 @@ use Rattle.std.proofs.Common.{◌≡◌, ℕ, ◌+◌, ◌<◌, ◌≤◌, Bool,
 use Rattle.std.proofs.lemmas.List.{length_push, get_or_push, get_or_append_left, length-set, length-take-le, take-append-drop, take_more_set, drop-set-lt}
 use Rattle.std.proofs.lemmas.Bool.{cases_lt, le-leb, lt-leb}
 use Rattle.register.specs.Keys.{place_of, seat_of, keys_after, laid_in, At, Absent, Differ, Grows, Added}
+use Rattle.register.specs.Seats.{Seated}
 use Rattle.register.proofs.Places.{Fair, place_at, place_absent, place_here}
 
 -- a key at the end of the others
@@ -131,3 +132,10 @@ added_new alike fair places n k lt d e =
       room = length-set places n k;
       grows = rw more (rw long at g);
     }
+
+pub seated : {K : Type 0} (alike : K → K → Bool) → Fair alike → (places : List K) (n : ℕ) (k : K) (r : Option ℕ) → n ≤ length places → Differ (take n places) → r ≡ place_of alike (take n places) k → Seated alike places n k r
+seated alike fair places n k (Some i) le d e = added_known alike fair places n k i le d e
+seated alike fair places n k None le d e = (
+  (λ q. added_full alike fair places n k q d e),
+  (λ q. added_new alike fair places n k (omega arith) d e),
+)

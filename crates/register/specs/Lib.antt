@@ -1,5 +1,6 @@
 pub mod Keys
 pub mod Held
+pub mod Seats
 pub mod Names
 pub mod Tables
 pub mod NameKeyLemmas

@@ -13,9 +13,15 @@ impl<'a, K: Blank> Register<'a, K> {
         ensures lent { self.new.keys.ghost_name ≡ self.old.keys.ghost_name }
     {
         self.count = 0;
-        // Not `fill`, which asks for a `clone` that cannot fail: a kind of key need not show that.
-        for key in self.keys.iter_mut() {
-            *key = K::blank();
-        }
+        blank_all(self.keys);
+    }
+}
+
+// Not `fill`, which asks for a `clone` that cannot fail: a kind of key need not show that.
+fn blank_all<K: Blank>(keys: &mut [K])
+    ensures { keys.new ≡ replicate (length keys.old) K.Blank.blank }
+{
+    for key in keys.iter_mut() {
+        *key = K::blank();
     }
 }

@@ -1,8 +1,9 @@
 // Keys are found and added by their sameness.
 ghost use Rattle.std.specs.Prelude.{◌≡◌};
 ghost use Rattle.std.specs.List.{slice_get};
-ghost use Rattle.register.specs.Keys.{place_of, Tells, Added};
+ghost use Rattle.register.specs.Keys.{place_of, Differ, Tells, Added};
 ghost use Rattle.register.specs.Held.{held, places};
+ghost use Rattle.register.specs.Seats.{Seated};
 
 use crate::Register;
 use crate::keys::Key;
@@ -17,18 +18,18 @@ impl<'a, K: Key> Register<'a, K> {
 
     // The place of a key, or none.
     pub fn find(&self, key: &K) -> Option<usize>
-        ensures place { result ≡ place_of K.PartialEq.eq (held self.now) key.now }
+        ensures place { result ≡ place_of K.Key.alike (held self.now) key.now }
         ensures exactly { Tells (held self.now) key.now result }
     {
-        self.keys[..self.count].iter().position(|k| k == key)
+        first_place(&self.keys[..self.count], key)
     }
 
     // The place of a key, which is added after the others if it is new; none if it is new and no place is left.
     pub fn add(&mut self, key: K) -> Option<usize>
-        ensures added { Added K.PartialEq.eq (places self.old) (held self.old) key result (places self.new) (held self.new) }
+        ensures added { Added K.Key.alike (places self.old) (held self.old) key result (places self.new) (held self.new) }
         ensures lent { self.new.keys.ghost_name ≡ self.old.keys.ghost_name }
     {
-        if let Some(place) = self.find(&key) {
+        if let Some(place) = self.seat_of(&key) {
             return Some(place);
         }
         let place = self.count;
@@ -39,4 +40,20 @@ impl<'a, K: Key> Register<'a, K> {
         self.count += 1;
         Some(place)
     }
+
+    // The place of a key, with what adding it comes to.
+    fn seat_of(&self, key: &K) -> Option<usize>
+        ensures { Seated K.Key.alike (places self.now) self.now.count key.now result }
+    {
+        self.find(key)
+    }
+}
+
+// The place of a key among different ones.
+fn first_place<K: Key>(keys: &[K], key: &K) -> Option<usize>
+    requires { Differ keys.now }
+    ensures place { result ≡ place_of K.Key.alike keys.now key.now }
+    ensures exactly { Tells keys.now key.now result }
+{
+    keys.iter().position(|k| k.same(key))
 }

@@ -1,9 +1,15 @@
 // What a register asks of a kind of key.
-ghost use Rattle.std.specs.Prelude.{◌≡◌, Decides};
+ghost use Rattle.std.specs.Prelude.{◌≡◌, Bool, Decides};
 
 // A kind of key: two keys are the same exactly when their contents are equal.
-pub trait Key: Eq + Copy {
-    ghost decides: { (x y : Self) → Decides (Self.PartialEq.eq x y) (x ≡ y) };
+// Not `Eq`, which says no more than that its sameness is an equivalence.
+pub trait Key: Copy {
+    ghost alike: { Self → Self → Bool };
+
+    fn same(&self, other: &Self) -> bool
+        ensures { result ≡ alike self.now other.now };
+
+    ghost decides: { (x y : Self) → Decides (alike x y) (x ≡ y) };
 }
 
 // A kind of key that has a blank, which is what a cleared place has.

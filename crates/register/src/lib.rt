@@ -60,5 +60,6 @@ mod tests {
         assert_eq!(rt; table.answer(31), None);
         assert_eq!(rt; table.answer(33), None);
         assert!(rt; table != CrossingTable::blank());
+        assert!(rt; !table.same(&CrossingTable::blank()));
     }
 }

@@ -60,11 +60,17 @@ fn filled(text: &[u8]) -> Name
 }
 
 impl Key for Name {
+    ghost alike = { alike_names };
+
     ghost decides = { λ x y. (
       (λ t. let p = and_parts (x.len == y.len) (bytes_eq x.bytes y.bytes) t in
           both x y (eqb-true x.len y.len p.0) ((bytes_eq-Decides x.bytes y.bytes).0 p.1)),
       (λ e. and_from (x.len == y.len) (bytes_eq x.bytes y.bytes) (eq-eqb x.len y.len (ap (λ (n : Name). n.len) e)) ((bytes_eq-Decides x.bytes y.bytes).1 (ap (λ (n : Name). n.bytes) e))),
     ) };
+
+    fn same(&self, other: &Name) -> bool {
+        self == other
+    }
 }
 
 // No bytes: no state has this name.

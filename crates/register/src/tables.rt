@@ -37,9 +37,15 @@ impl CrossingTable {
 }
 
 impl Key for CrossingTable {
+    ghost alike = { alike_tables };
+
     ghost decides = { λ x y.
         let d = bytes_eq-Decides x.answers y.answers in
         ((λ t. equal x y (d.0 t)), (λ e. d.1 (ap (λ (t : CrossingTable). t.answers) e))) };
+
+    fn same(&self, other: &CrossingTable) -> bool {
+        self == other
+    }
 }
 
 // Never at every place: no word has this table.

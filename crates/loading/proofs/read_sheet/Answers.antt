@@ -4,8 +4,12 @@ use Rattle.spelling.proofs.First.{first_is_met}
 use Rattle.spelling.proofs.Spelled.{read_is_spelled}
 use Rattle.loading.proofs.read_sheet.Goals as goal
 
-pub returns-clause-spelled : goal.returns-clause-spelled
-returns-clause-spelled c = subst (Spelled c.args.sheet.now) (sym c.load.ensures) (read_is_spelled c.args.sheet.now)
-
-pub returns-clause-first : goal.returns-clause-first
-returns-clause-first c = subst (FirstMet c.args.sheet.now) (sym c.load.ensures) (first_is_met c.args.sheet.now)
+pub returns : goal.returns
+returns c =
+    let sheet = c.args.sheet.now in
+    let e = c.read.ensures in
+    record {
+      answer = e;
+      spelled = subst (Spelled sheet) (sym e) (read_is_spelled sheet);
+      first = subst (FirstMet sheet) (sym e) (first_is_met sheet);
+    }

@@ -2,7 +2,7 @@ use Rattle.std.proofs.Common.{rules, tests}
 use Rattle.two_way.specs.Tables.{extended}
 use Rattle.two_way.specs.Rows.{of_row}
 use Rattle.crossing.specs.Computed.{extended_of}
-use Rattle.crossing.proofs.extended_table.Goals as goal
+use Rattle.crossing.proofs.table_after.Goals as goal
 
 pub returns : goal.returns
 unfolding extended_of
