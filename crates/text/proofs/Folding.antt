@@ -32,12 +32,12 @@ module _ {S A F E : Type 0} (steps : S → Option A → S → Type 0) (v : A →
       let z : added most i y ≡ Some m.1 = sym (ap (added most i) k.0) ∙ sym d.1 ∙ on w m.1 go in
       folded all j t u xs o m.0 q m.1 a r k.1 ys st d.0 fs en ∙ sym (ap (then_read (read_on most all)) z)
 
-pub try_folded : {S A F E : Type 0} {steps : S → Option A → S → Type 0} {v : A → ℕ} {g : Mut F (ℕ × (A × Unit {0})) (Option ℕ)} {s : S} (branches : Option ℕ → ControlFlow E ℕ → Type 0) (resumes : E → Option ℕ → Type 0) (most : ℕ) (all : List ℕ) (u : S) (f : F) (r : Option ℕ)
-    → (xs : List A) × (o : Option A) × (q : F) × (a : ℕ) × YieldsThen steps s xs o u × FoldsTo {P = F × ℕ} (TryFoldTurn g branches) (f, 0) xs (q, a)
+pub try_folded : {S A F E : Type 0} {steps : S → Option A → S → Type 0} {v : A → ℕ} {g : Mut F (ℕ × (A × Unit {0})) (Option ℕ)} {s : S} (branches : Option ℕ → ControlFlow E ℕ → Type 0) (resumes : E → Option ℕ → Type 0) (most first : ℕ) (all : List ℕ) (u : S) (f : F) (r : Option ℕ)
+    → (xs : List A) × (o : Option A) × (q : F) × (a : ℕ) × YieldsThen steps s xs o u × FoldsTo {P = F × ℕ} (TryFoldTurn g branches) (f, first) xs (q, a)
     × MatchOption o (branches r (Continue a)) (λ x. (w : Option ℕ) × (h : F) × (e : E) × Called g q (a, (x, tt)) w h × branches w (Break e) × resumes e r)
     → YieldsList steps v s all
     → ((o : Option ℕ) (a : ℕ) → branches o (Continue a) → o ≡ Some a) → ((o : Option ℕ) (e : E) → branches o (Break e) → o ≡ None) → ((e : E) (o : Option ℕ) → resumes e o → o ≡ None)
     → ((a : ℕ) (x : A) (o : Option ℕ) (q : F) → Called g f (a, (x, tt)) o q → (q ≡ f) × (o ≡ added most a (v x)))
-    → r ≡ read_on most all 0
-try_folded {S} {A} {F} {E} {steps} {v} {g} {s} branches resumes most all u f r d y on off back gives =
-    folded steps v g branches resumes most f on off back gives all s d.4.0 u d.0 d.1 f d.2 0 d.3 r y.runs d.4.1 d.4.2 refl d.5 d.6
+    → r ≡ read_on most all first
+try_folded {S} {A} {F} {E} {steps} {v} {g} {s} branches resumes most first all u f r d y on off back gives =
+    folded steps v g branches resumes most f on off back gives all s d.4.0 u d.0 d.1 f d.2 first d.3 r y.runs d.4.1 d.4.2 refl d.5 d.6

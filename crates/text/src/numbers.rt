@@ -1,18 +1,33 @@
 // Decimal numbers, read.
-ghost use Rattle.std.specs.Prelude.{◌≡◌, ℕ, ◌+◌, ◌-◌, ◌*◌, ◌&&◌, if◌then◌else◌, Some, None, nat_le};
+ghost use Rattle.std.specs.Prelude.{◌≡◌, ℕ, ◌+◌, ◌-◌, ◌*◌, ◌≤◌, ◌&&◌, if◌then◌else◌, Some, None, nat_le};
 ghost use Rattle.std.specs.Char.{is_ascii_digit};
-ghost use Rattle.text.specs.Numbers.{number, plain, WrittenAs};
+ghost use Rattle.text.specs.Numbers.{number, plain, value_after, WrittenAs};
+ghost use Rattle.std.specs.Str.{all_ascii_digits};
 
 // The number that a text is, if it is at most `most`: digits without a needless leading zero.
 pub fn read_number(text: &[u8], most: u32) -> Option<u32>
     ensures number { result ≡ number most text.now }
     ensures law { WrittenAs most text.now result }
 {
+    number_in(text, most)
+}
+
+// The same by its definition alone.
+fn number_in(text: &[u8], most: u32) -> Option<u32>
+    ensures { result ≡ number most text.now }
+{
     if !is_plain(text) {
         return None;
     }
+    digits_after(0, text, most)
+}
+
+// The number that digits write after those of `first`, if it is at most `most`.
+fn digits_after(first: u32, text: &[u8], most: u32) -> Option<u32>
+    ensures { first ≤ most → result ≡ (if all_ascii_digits text.now && nat_le (value_after first text.now) most then Some (value_after first text.now) else None) }
+{
     text.iter()
-        .try_fold(0, |value, b| with_digit(value, *b, most))
+        .try_fold(first, |value, b| with_digit(value, *b, most))
 }
 
 // Whether a text has a byte, and no needless zero in front.
