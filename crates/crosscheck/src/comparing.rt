@@ -118,10 +118,11 @@ impl<'a> Comparison<'a> {
         expected: Outcome,
     ) -> anyhow::Result<()> {
         self.tally.walks = self.tally.walks.saturating_add(1);
-        if let Ok(walked) = engine.walk(word) {
-            if u8::from(walked.verdict) == expected.ending as u8 && walked.steps == expected.steps {
-                return Ok(());
-            }
+        let same = engine.walk(word).is_ok_and(|walked| {
+            u8::from(walked.verdict) == expected.ending as u8 && walked.steps == expected.steps
+        });
+        if same {
+            return Ok(());
         }
         self.mismatch("walk", drawing, word)
     }
@@ -135,10 +136,9 @@ impl<'a> Comparison<'a> {
         expected: Outcome,
     ) -> anyhow::Result<()> {
         self.tally.asks = self.tally.asks.saturating_add(1);
-        if let Ok(verdict) = engine.ask(&self.memory.dfa, word) {
-            if u8::from(verdict) == expected.ending as u8 {
-                return Ok(());
-            }
+        let asked = engine.ask(&self.memory.dfa, word);
+        if asked.is_ok_and(|verdict| u8::from(verdict) == expected.ending as u8) {
+            return Ok(());
         }
         self.mismatch("ask", drawing, word)
     }

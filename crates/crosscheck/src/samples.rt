@@ -19,10 +19,9 @@ const CONTENT: &[u8] = b"rule\t1\tw\tw\tno\n";
 // Whether a walk has this verdict and this count.
 fn walks<R: Rule + Drop>(rule: R, word: &[u8], verdict: Ending, steps: u32) -> bool {
     let letters = PlainLetters::new(rule.letters());
-    match Engine::new(rule, letters).walk(word) {
-        Ok(walked) => u8::from(walked.verdict) == verdict as u8 && walked.steps == steps,
-        Err(_) => false,
-    }
+    Engine::new(rule, letters).walk(word).is_ok_and(|walked| u8::from(walked.verdict)
+        == verdict as u8
+        && walked.steps == steps)
 }
 
 // Whether a build with that many places has so many rows, and these first: two cells and the verdict.

@@ -29,7 +29,7 @@ impl<'a, K: Key> Register<'a, K> {
         ensures added { Added K.Key.alike (places self.old) (held self.old) key result (places self.new) (held self.new) }
         ensures lent { self.new.keys.ghost_name ≡ self.old.keys.ghost_name }
     {
-        if let Some(place) = self.seat_of(&key) {
+        if let Some(place) = self.seat_for(&key) {
             return Some(place);
         }
         let place = self.count;
@@ -42,7 +42,7 @@ impl<'a, K: Key> Register<'a, K> {
     }
 
     // The place of a key, with what adding it comes to.
-    fn seat_of(&self, key: &K) -> Option<usize>
+    fn seat_for(&self, key: &K) -> Option<usize>
         ensures { Seated K.Key.alike (places self.now) self.now.count key.now result }
     {
         self.find(key)

@@ -2,7 +2,7 @@
 ghost use Rattle.std.specs.Prelude.{◌≡◌, Bool, Decides};
 
 // A kind of key: two keys are the same exactly when their contents are equal.
-// Not `Eq`, which says no more than that its sameness is an equivalence.
+// Not by `==`, which a kind may lack, or have coarser than that.
 pub trait Key: Copy {
     ghost alike: { Self → Self → Bool };
 

@@ -1,5 +1,5 @@
 -- A text is read as a number exactly where it is the number's digits.
-use Rattle.std.proofs.Common.{◌≡◌, ℕ, ◌+◌, ◌-◌, ◌*◌, ◌^◌, ◌<◌, ◌≤◌, Bool, true, false, cond, ◌&&◌, leb, ◌⊎◌, List, [], ◌∷◌, length, get_or, Some, None, decimal, Option, sym, refl, ap, ◌∙◌, subst, inl, inr, zero-le, le_refl, not-suc-le-zero, zero-lt-suc, arith, rules}
+use Rattle.std.proofs.Common.{◌≡◌, ℕ, ◌+◌, ◌-◌, ◌*◌, ◌^◌, ◌<◌, ◌≤◌, Bool, true, false, cond, ◌&&◌, leb, ◌⊎◌, List, [], ◌∷◌, length, get_or, Some, None, decimal, Option, sym, refl, ap, subst, inl, inr, le_refl, not-suc-le-zero, zero-lt-suc, arith, rules}
 use Rattle.std.specs.Str.Iter.{LacksByte}
 use Rattle.std.specs.Char.{is_ascii_digit}
 use Rattle.std.specs.Int.{IsInRange}
@@ -88,13 +88,6 @@ written_as most text small = go (plain text && (all_ascii_digits text && leb (va
 -- what both clauses say of an answer
 pub lawful : (most : ℕ) (text : List ℕ) (r : Option ℕ) → most < 2 ^ 64 → r ≡ number most text → (r ≡ number most text) × WrittenAs most text r
 lawful most text r small e = (e, subst (λ (o : Option ℕ). WrittenAs most text o) (sym e) (written_as most text small))
-
--- a text with a needless zero, and one that is read digit by digit
-pub not_plain : (most : ℕ) (text : List ℕ) → plain text ≡ false → None ≡ number most text
-not_plain most text e = rw e refl
-
-pub by_digits : (most : ℕ) (text : List ℕ) → plain text ≡ true → read_on most text 0 ≡ number most text
-by_digits most text e = read_on_is most text 0 zero-le ∙ rw e refl
 
 -- digits have no byte that is not one
 pub lacks_decimal : (x n : ℕ) → n < 2 ^ 64 → (IsInRange 48 57 x → ⊥) → LacksByte x (decimal n)

@@ -1,5 +1,5 @@
 use Rattle.register.proofs.Adding.{seated}
-use Rattle.register.proofs.Register.seat_of.Goals as goal
+use Rattle.register.proofs.Register.seat_for.Goals as goal
 
 pub returns : goal.returns
 returns g c =
